@@ -1,0 +1,74 @@
+use native.Mathlib.Omega.{arith}
+use mathlib.Core.Path.{_≡_, sym, ap, _∙_}
+use denote.Ref.{now}
+use lib.ListN.{length}
+use Rattle.automaton.proofs.Writes.{put-head-room, put-symbols-room, put-rows-room, put-end-room, put-whole}
+use borrow.Author.Needs.{needs}
+use Rattle.automaton.proofs.put_file.Statement.{statement}
+use Rattle.automaton.proofs.put_file.Tie as tie
+use Rattle.automaton.proofs.put_file.Reads as reads
+use Rattle.automaton.proofs.put_file.Lts as lts
+use Rattle.automaton.proofs.writer.put_end.Reads as put-end-reads
+use Rattle.automaton.proofs.writer.put_head.Reads as put-head-reads
+use Rattle.automaton.proofs.writer.put_rows.Reads as put-rows-reads
+use Rattle.automaton.proofs.writer.put_symbols.Reads as put-symbols-reads
+
+-- src/lib.rt:167:5
+put-head-requires : tie.Need-put-head-requires
+put-head-requires c κs = put-head-room (c .before .before .before .before .before .args .value) (let l : length (c .before .before .before .before .before .args .value .arities) ≡ 32 = search needs in l) (c .before .before .before .before .before .pre .0) (c .before .before .before .before .before .pre .1 .0) (now (c .before .before .before .before .before .args .out)) (c .before .before .before .before .before .pre .1 .1)
+
+-- src/lib.rt:168:39
+cast-put-symbols : tie.Need-cast-put-symbols
+cast-put-symbols c = search needs
+
+-- src/lib.rt:168:5
+put-symbols-requires : tie.Need-put-symbols-requires
+put-symbols-requires c κs = (put-symbols-room (c .before .before .before .before .before .before .before .before .before .args .value) (let l : length (c .before .before .before .before .before .before .before .before .before .args .value .arities) ≡ 32 = search needs in l) (c .before .before .before .before .before .before .before .before .before .pre .0) (c .before .before .before .before .before .before .before .before .before .pre .1 .0) (now (c .before .before .before .before .before .before .before .before .before .args .out)) (c .before .before .before .before .before .before .before .before .before .pre .1 .1) .0, omega (arith, c .before .before .before .put-head .kept .0, put-symbols-room (c .before .before .before .before .before .before .before .before .before .args .value) (let l : length (c .before .before .before .before .before .before .before .before .before .args .value .arities) ≡ 32 = search needs in l) (c .before .before .before .before .before .before .before .before .before .pre .0) (c .before .before .before .before .before .before .before .before .before .pre .1 .0) (now (c .before .before .before .before .before .before .before .before .before .args .out)) (c .before .before .before .before .before .before .before .before .before .pre .1 .1) .1))
+
+-- src/lib.rt:169:46
+cast-put-rows : tie.Need-cast-put-rows
+cast-put-rows c = search needs
+
+-- src/lib.rt:169:41
+mul-put-rows : tie.Need-mul-put-rows
+mul-put-rows c = search needs
+
+-- src/lib.rt:169:37
+add-put-rows : tie.Need-add-put-rows
+add-put-rows c = search needs
+
+-- src/lib.rt:169:71
+cast-put-rows-2 : tie.Need-cast-put-rows-2
+cast-put-rows-2 c = search needs
+
+-- src/lib.rt:169:9
+put-rows-requires : tie.Need-put-rows-requires
+put-rows-requires c κs = put-rows-room (c .before .before .before .before .before .before .before .before .before .before .before .before .before .args .value) (let l : length (c .before .before .before .before .before .before .before .before .before .before .before .before .before .args .value .arities) ≡ 32 = search needs in l) (c .before .before .before .before .before .before .before .before .before .before .before .before .before .pre .0) (c .before .before .before .before .before .before .before .before .before .before .before .before .before .pre .1 .0) (now (c .before .before .before .before .before .before .before .before .before .before .before .before .before .args .out)) (c .before .before .before .before .before .before .before .before .before .before .before .before .before .pre .1 .1) (c .before .before .before .put-symbols .last .0) (c .before .before .before .put-symbols .kept .0 ∙ c .before .before .before .before .before .before .before .put-head .kept .0)
+
+-- src/lib.rt:170:5
+put-end-requires : tie.Need-put-end-requires
+put-end-requires c κs = put-end-room (c .before .before .before .before .before .before .before .before .before .before .before .before .before .before .before .before .before .args .value) (let l : length (c .before .before .before .before .before .before .before .before .before .before .before .before .before .before .before .before .before .args .value .arities) ≡ 32 = search needs in l) (c .before .before .before .before .before .before .before .before .before .before .before .before .before .before .before .before .before .pre .0) (c .before .before .before .before .before .before .before .before .before .before .before .before .before .before .before .before .before .pre .1 .0) (now (c .before .before .before .before .before .before .before .before .before .before .before .before .before .before .before .before .before .args .out)) (c .before .before .before .before .before .before .before .before .before .before .before .before .before .before .before .before .before .pre .1 .1) (c .before .before .before .put-rows .last .0) (c .before .before .before .put-rows .result) (c .before .before .before .put-rows .kept .0 ∙ c .before .before .before .before .before .before .before .put-symbols .kept .0 ∙ c .before .before .before .before .before .before .before .before .before .before .before .put-head .kept .0) (c .before .before .before .put-rows .ensures .0)
+
+-- src/lib.rt:157:1
+same-length : tie.Need-same-length
+same-length c = c .before .before .put-end .kept .0 ∙ c .before .before .before .before .before .before .put-rows .kept .0 ∙ c .before .before .before .before .before .before .before .before .before .before .put-symbols .kept .0 ∙ c .before .before .before .before .before .before .before .before .before .before .before .before .before .before .put-head .kept .0
+
+-- src/lib.rt:157:1
+returns : tie.Need-returns
+returns c = rw (c .before .before .before .before .before .before .put-rows .ensures .1, c .before .before .before .before .before .before .before .before .before .before .put-symbols .ensures, c .before .before .before .before .before .before .before .before .before .before .before .before .before .before .put-head .ensures) at (c .before .before .put-end .ensures) ∙ put-whole (c .before .before .before .before .before .before .before .before .before .before .before .before .before .before .before .before .before .before .before .before .args .value) (let l : length (c .before .before .before .before .before .before .before .before .before .before .before .before .before .before .before .before .before .before .before .before .args .value .arities) ≡ 32 = search needs in l) (c .before .before .before .before .before .before .before .before .before .before .before .before .before .before .before .before .before .before .before .before .pre .0) (c .before .before .before .before .before .before .before .before .before .before .before .before .before .before .before .before .before .before .before .before .pre .1 .0) (now (c .before .before .before .before .before .before .before .before .before .before .before .before .before .before .before .before .before .before .before .before .args .out)) (c .before .before .before .before .before .before .before .before .before .before .before .before .before .before .before .before .before .before .before .before .pre .1 .1) (c .before .before .before .before .before .before .put-rows .result) (c .before .before .before .before .before .before .put-rows .ensures .0)
+
+pub put-file-spec : {M : Type 1} → statement M
+put-file-spec =
+    tie.close
+    (tie.spec
+    put-head-requires
+    cast-put-symbols
+    put-symbols-requires
+    cast-put-rows
+    mul-put-rows
+    add-put-rows
+    cast-put-rows-2
+    put-rows-requires
+    put-end-requires
+    same-length
+    returns)

@@ -1,0 +1,111 @@
+use denote.Ref.{now}
+use borrow.Author.Tests.{not-true, not-false}
+use Rattle.automaton.proofs.Rows.{row-unknown, row-unsuited, row-aimless, row-sourceless, row-good}
+use borrow.Author.Needs.{needs}
+use Rattle.automaton.proofs.reader.row_at.Statement.{statement}
+use Rattle.automaton.proofs.reader.row_at.Tie as tie
+use Rattle.automaton.proofs.reader.row_at.Reads as reads
+use Rattle.automaton.proofs.reader.row_at.Lts as lts
+use Rattle.automaton.proofs.reader.index.Reads as index-reads
+use Rattle.automaton.proofs.reader.no_row.Reads as no-row-reads
+use Rattle.automaton.proofs.reader.sources_at.Reads as sources-at-reads
+
+-- src/reader.rt:244:23
+add-symbol : tie.Need-add-symbol
+add-symbol c = search needs
+
+-- src/reader.rt:244:18
+shared-slice-read-symbol : tie.Need-shared-slice-read-symbol
+shared-slice-read-symbol c = search needs
+
+-- src/reader.rt:246:9
+no-row-requires : tie.Need-no-row-requires
+no-row-requires c κs = search needs
+
+-- src/reader.rt:246:9
+returns : tie.Need-returns
+returns c = row-unknown (now (c .before .before .before .before .args .file)) (c .before .before .before .before .args .at) (c .before .before .before .before .args .size) (c .before .before .before .before .args .states) (c .before .before .before .before .args .symbols) (now (c .before .before .before .before .args .arities)) (c .before .before .before .before .pre .0) (c .before .before .before .before .pre .1 .1 .0) (c .before .if1 .taken) (c .no-row .result) (c .no-row .ensures)
+
+-- src/reader.rt:248:31
+cast-index : tie.Need-cast-index
+cast-index c = search needs
+
+-- src/reader.rt:248:23
+element-copy-out-index : tie.Need-element-copy-out-index
+element-copy-out-index c = search needs
+
+-- src/reader.rt:248:9
+index-requires : tie.Need-index-requires
+index-requires c κs = search needs
+
+-- src/reader.rt:249:16
+add-if2 : tie.Need-add-if2
+add-if2 c = search needs
+
+-- src/reader.rt:250:9
+no-row-requires-2 : tie.Need-no-row-requires-2
+no-row-requires-2 c κs = search needs
+
+-- src/reader.rt:250:9
+returns-2 : tie.Need-returns-2
+returns-2 c = row-unsuited (now (c .before .before .before .before .before .before .before .args .file)) (c .before .before .before .before .before .before .before .args .at) (c .before .before .before .before .before .before .before .args .size) (c .before .before .before .before .before .before .before .args .states) (c .before .before .before .before .before .before .before .args .symbols) (now (c .before .before .before .before .before .before .before .args .arities)) (c .before .before .before .before .before .before .before .pre .0) (c .before .before .before .before .before .before .before .pre .1 .1 .0) (c .before .before .before .before .if1 .left) (λ e. c .before .if2 .taken (rw (c .before .before .index .ensures .0) e)) (c .no-row2 .result) (c .no-row2 .ensures)
+
+-- src/reader.rt:252:23
+add-target : tie.Need-add-target
+add-target c = search needs
+
+-- src/reader.rt:252:18
+shared-slice-read-target : tie.Need-shared-slice-read-target
+shared-slice-read-target c = search needs
+
+-- src/reader.rt:254:9
+no-row-requires-3 : tie.Need-no-row-requires-3
+no-row-requires-3 c κs = search needs
+
+-- src/reader.rt:254:9
+returns-3 : tie.Need-returns-3
+returns-3 c = row-aimless (now (c .before .before .before .before .before .before .before .before .before .args .file)) (c .before .before .before .before .before .before .before .before .before .args .at) (c .before .before .before .before .before .before .before .before .before .args .size) (c .before .before .before .before .before .before .before .before .before .args .states) (c .before .before .before .before .before .before .before .before .before .args .symbols) (now (c .before .before .before .before .before .before .before .before .before .args .arities)) (c .before .before .before .before .before .before .before .before .before .pre .0) (c .before .before .before .before .before .before .before .before .before .pre .1 .1 .0) (c .before .before .before .before .before .before .if1 .left) (rw (c .before .before .before .before .index .ensures .0) at (c .before .before .before .if2 .left)) (c .before .if3 .taken) (c .no-row3 .result) (c .no-row3 .ensures)
+
+-- src/reader.rt:256:36
+add-sources-at : tie.Need-add-sources-at
+add-sources-at c = search needs
+
+-- src/reader.rt:256:9
+sources-at-requires : tie.Need-sources-at-requires
+sources-at-requires c κs = search needs
+
+-- src/reader.rt:258:9
+no-row-requires-4 : tie.Need-no-row-requires-4
+no-row-requires-4 c κs = search needs
+
+-- src/reader.rt:258:9
+returns-4 : tie.Need-returns-4
+returns-4 c = row-sourceless (now (c .before .before .before .before .before .before .before .before .before .before .before .before .args .file)) (c .before .before .before .before .before .before .before .before .before .before .before .before .args .at) (c .before .before .before .before .before .before .before .before .before .before .before .before .args .size) (c .before .before .before .before .before .before .before .before .before .before .before .before .args .states) (c .before .before .before .before .before .before .before .before .before .before .before .before .args .symbols) (now (c .before .before .before .before .before .before .before .before .before .before .before .before .args .arities)) (c .before .before .before .before .before .before .before .before .before .before .before .before .pre .0) (c .before .before .before .before .before .before .before .before .before .before .before .before .pre .1 .1 .0) (c .before .before .before .before .before .before .before .before .before .if1 .left) (rw (c .before .before .before .before .before .before .before .index .ensures .0) at (c .before .before .before .before .before .before .if2 .left)) (c .before .before .before .before .if3 .left) (c .before .before .before .sources-at .result) (rw (c .before .before .before .before .before .before .before .index .ensures .0) at (c .before .before .before .sources-at .ensures)) (not-true _ (c .before .if4 .taken)) (c .no-row4 .result) (c .no-row4 .ensures)
+
+-- src/reader.rt:240:1
+returns-5 : tie.Need-returns-5
+returns-5 c = row-good (now (c .before .before .before .before .before .before .before .before .before .before .before .before .args .file)) (c .before .before .before .before .before .before .before .before .before .before .before .before .args .at) (c .before .before .before .before .before .before .before .before .before .before .before .before .args .size) (c .before .before .before .before .before .before .before .before .before .before .before .before .args .states) (c .before .before .before .before .before .before .before .before .before .before .before .before .args .symbols) (now (c .before .before .before .before .before .before .before .before .before .before .before .before .args .arities)) (c .before .before .before .before .before .before .before .before .before .before .before .before .pre .0) (c .before .before .before .before .before .before .before .before .before .before .before .before .pre .1 .1 .0) (c .before .before .before .before .before .before .before .before .before .if1 .left) (rw (c .before .before .before .before .before .before .before .index .ensures .0) at (c .before .before .before .before .before .before .if2 .left)) (c .before .before .before .before .if3 .left) (c .before .before .before .sources-at .result) (rw (c .before .before .before .before .before .before .before .index .ensures .0) at (c .before .before .before .sources-at .ensures)) (not-false _ (c .before .if4 .left))
+
+pub row-at-spec : {M : Type 1} → statement M
+row-at-spec =
+    tie.close
+    (tie.spec
+    add-symbol
+    shared-slice-read-symbol
+    no-row-requires
+    returns
+    cast-index
+    element-copy-out-index
+    index-requires
+    add-if2
+    no-row-requires-2
+    returns-2
+    add-target
+    shared-slice-read-target
+    no-row-requires-3
+    returns-3
+    add-sources-at
+    sources-at-requires
+    no-row-requires-4
+    returns-4
+    returns-5)

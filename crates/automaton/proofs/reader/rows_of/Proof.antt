@@ -1,0 +1,120 @@
+use Prim.Native.Nat.{_-_}
+use lib.ListN.{length}
+use native.Mathlib.Omega.{arith}
+use Rattle.automaton.proofs.RowLoop.{RowsSoFar, rows-start, rows-fault, rows-ended, rows-after, rows-many, row-two, row-five, row-there, rows-wrong, rows-next}
+use borrow.Author.Needs.{needs}
+use Rattle.automaton.proofs.reader.rows_of.Statement.{statement}
+use Rattle.automaton.proofs.reader.rows_of.Tie as tie
+use Rattle.automaton.proofs.reader.rows_of.Reads as reads
+use Rattle.automaton.proofs.reader.rows_of.Lts as lts
+use Rattle.automaton.proofs.no_rows.Reads as no-rows-reads
+use Rattle.automaton.proofs.reader.frame_at.Reads as frame-at-reads
+use Rattle.automaton.proofs.reader.row_at.Reads as row-at-reads
+
+abbrev Inv-loop : tie.InvT-loop
+Inv-loop file start states symbols arities rows₀ count₀ at₀ rows count at = RowsSoFar file start states symbols arities rows count at
+
+abbrev μ-loop : tie.MeasureT-loop
+μ-loop file start states symbols arities rows₀ count₀ at₀ rows count at = length file - at
+
+-- src/reader.rt:273:20
+no-rows-requires : tie.Need-no-rows-requires Inv-loop μ-loop
+no-rows-requires c κs = search needs
+
+-- src/reader.rt:276:5
+loop-holds : tie.Need-loop-holds Inv-loop μ-loop
+loop-holds c = rw (c .no-rows .ensures) (rows-start (c .before .before .args .file .now) (c .before .before .args .start) (c .before .before .args .states) (c .before .before .args .symbols) (c .before .before .args .arities .now) (c .before .before .pre))
+
+-- src/reader.rt:277:13
+frame-at-requires : tie.Need-frame-at-requires Inv-loop μ-loop
+frame-at-requires c κs = search needs
+
+-- src/reader.rt:280:13
+returns : tie.Need-returns Inv-loop μ-loop
+returns c = rows-fault (c .before .before .before .before .before .args .file .now) (c .before .before .before .before .before .args .start) (c .before .before .before .before .before .args .states) (c .before .before .before .before .before .args .symbols) (c .before .before .before .before .before .args .arities .now) (c .before .before .loop .rows) (c .before .before .loop .count) (c .before .before .loop .at) (c .before .before .loop .inv) (c .before .frame-at .result) (c .before .frame-at .ensures) (c .if1 .taken)
+
+-- src/reader.rt:283:16
+add-if3 : tie.Need-add-if3 Inv-loop μ-loop
+add-if3 c = search needs
+
+-- src/reader.rt:284:17
+returns-2 : tie.Need-returns-2 Inv-loop μ-loop
+returns-2 c = rows-after (c .before .before .before .before .before .before .before .before .args .file .now) (c .before .before .before .before .before .before .before .before .args .start) (c .before .before .before .before .before .before .before .before .args .states) (c .before .before .before .before .before .before .before .before .args .symbols) (c .before .before .before .before .before .before .before .before .args .arities .now) (c .before .before .before .before .before .loop .rows) (c .before .before .before .before .before .loop .count) (c .before .before .before .before .before .loop .at) (c .before .before .before .before .before .loop .inv) (c .before .before .before .before .frame-at .result) (c .before .before .before .before .frame-at .ensures) (c .before .before .before .if1 .left) (c .before .if2 .taken) (c .if3 .taken)
+
+-- src/reader.rt:286:13
+returns-3 : tie.Need-returns-3 Inv-loop μ-loop
+returns-3 c = rows-ended (c .before .before .before .before .before .before .before .before .args .file .now) (c .before .before .before .before .before .before .before .before .args .start) (c .before .before .before .before .before .before .before .before .args .states) (c .before .before .before .before .before .before .before .before .args .symbols) (c .before .before .before .before .before .before .before .before .args .arities .now) (c .before .before .before .before .before .loop .rows) (c .before .before .before .before .before .loop .count) (c .before .before .before .before .before .loop .at) (c .before .before .before .before .before .loop .inv) (c .before .before .before .before .frame-at .result) (c .before .before .before .before .frame-at .ensures) (c .before .before .before .if1 .left) (c .before .if2 .taken) (c .if3 .left)
+
+-- src/reader.rt:289:13
+returns-4 : tie.Need-returns-4 Inv-loop μ-loop
+returns-4 c = rows-many (c .before .before .before .before .before .before .before .before .args .file .now) (c .before .before .before .before .before .before .before .before .args .start) (c .before .before .before .before .before .before .before .before .args .states) (c .before .before .before .before .before .before .before .before .args .symbols) (c .before .before .before .before .before .before .before .before .args .arities .now) (c .before .before .before .before .before .loop .rows) (c .before .before .before .before .before .loop .count) (c .before .before .before .before .before .loop .at) (c .before .before .before .before .before .loop .inv) (c .before .before .before .before .frame-at .result) (c .before .before .before .before .frame-at .ensures) (c .before .before .before .if1 .left) (c .before .if2 .left) (c .if4 .taken)
+
+-- src/reader.rt:291:20
+cast-size : tie.Need-cast-size Inv-loop μ-loop
+cast-size c = search needs
+
+-- src/reader.rt:292:13
+row-at-requires : tie.Need-row-at-requires Inv-loop μ-loop
+row-at-requires c κs = (row-two (c .before .before .before .before .before .before .before .before .before .args .file .now) (c .before .before .before .before .before .before .before .before .before .args .start) (c .before .before .before .before .before .before .before .before .before .args .states) (c .before .before .before .before .before .before .before .before .before .args .symbols) (c .before .before .before .before .before .before .before .before .before .args .arities .now) (c .before .before .before .before .before .before .loop .rows) (c .before .before .before .before .before .before .loop .count) (c .before .before .before .before .before .before .loop .at) (c .before .before .before .before .before .before .loop .inv) (c .before .before .before .before .before .frame-at .result) (c .before .before .before .before .before .frame-at .ensures) (c .before .before .before .before .if1 .left) (c .before .before .if2 .left), (row-five (c .before .before .before .before .before .before .before .before .before .args .file .now) (c .before .before .before .before .before .before .before .before .before .args .start) (c .before .before .before .before .before .before .before .before .before .args .states) (c .before .before .before .before .before .before .before .before .before .args .symbols) (c .before .before .before .before .before .before .before .before .before .args .arities .now) (c .before .before .before .before .before .before .loop .rows) (c .before .before .before .before .before .before .loop .count) (c .before .before .before .before .before .before .loop .at) (c .before .before .before .before .before .before .loop .inv) (c .before .before .before .before .before .frame-at .result) (c .before .before .before .before .before .frame-at .ensures) (c .before .before .before .before .if1 .left) (c .before .before .if2 .left), (row-there (c .before .before .before .before .before .before .before .before .before .args .file .now) (c .before .before .before .before .before .before .before .before .before .args .start) (c .before .before .before .before .before .before .before .before .before .args .states) (c .before .before .before .before .before .before .before .before .before .args .symbols) (c .before .before .before .before .before .before .before .before .before .args .arities .now) (c .before .before .before .before .before .before .loop .rows) (c .before .before .before .before .before .before .loop .count) (c .before .before .before .before .before .before .loop .at) (c .before .before .before .before .before .before .loop .inv) (c .before .before .before .before .before .frame-at .result) (c .before .before .before .before .before .frame-at .ensures) (c .before .before .before .before .if1 .left) (c .before .before .if2 .left), c .before .before .before .before .before .before .before .before .before .pre .few)))
+
+-- src/reader.rt:295:13
+returns-5 : tie.Need-returns-5 Inv-loop μ-loop
+returns-5 c = rows-wrong (c .before .before .before .before .before .before .before .before .before .before .before .args .file .now) (c .before .before .before .before .before .before .before .before .before .before .before .args .start) (c .before .before .before .before .before .before .before .before .before .before .before .args .states) (c .before .before .before .before .before .before .before .before .before .before .before .args .symbols) (c .before .before .before .before .before .before .before .before .before .before .before .args .arities .now) (c .before .before .before .before .before .before .before .before .loop .rows) (c .before .before .before .before .before .before .before .before .loop .count) (c .before .before .before .before .before .before .before .before .loop .at) (c .before .before .before .before .before .before .before .before .loop .inv) (c .before .before .before .before .before .before .before .frame-at .result) (c .before .before .before .before .before .before .before .frame-at .ensures) (c .before .before .before .before .before .before .if1 .left) (c .before .before .before .before .if2 .left) (c .before .before .before .if4 .left) (c .before .row-at .result) (c .before .row-at .ensures) (c .if5 .taken)
+
+-- src/reader.rt:298:14
+cast-rows : tie.Need-cast-rows Inv-loop μ-loop
+cast-rows c = search needs
+
+-- src/reader.rt:298:9
+mul-rows : tie.Need-mul-rows Inv-loop μ-loop
+mul-rows c = search needs
+
+-- src/reader.rt:298:9
+array-set-from-rows : tie.Need-array-set-from-rows Inv-loop μ-loop
+array-set-from-rows c = search needs
+
+-- src/reader.rt:299:9
+add-count : tie.Need-add-count Inv-loop μ-loop
+add-count c = search needs
+
+-- src/reader.rt:300:15
+add-at : tie.Need-add-at Inv-loop μ-loop
+add-at c = search needs
+
+-- src/reader.rt:300:9
+add-at-2 : tie.Need-add-at-2 Inv-loop μ-loop
+add-at-2 c = search needs
+
+-- src/reader.rt:276:5
+loop-less : tie.Need-loop-less Inv-loop μ-loop
+loop-less c = omega (arith, row-there (c .before .before .before .before .before .before .before .before .before .before .before .before .args .file .now) (c .before .before .before .before .before .before .before .before .before .before .before .before .args .start) (c .before .before .before .before .before .before .before .before .before .before .before .before .args .states) (c .before .before .before .before .before .before .before .before .before .before .before .before .args .symbols) (c .before .before .before .before .before .before .before .before .before .before .before .before .args .arities .now) (c .before .before .before .before .before .before .before .before .before .loop .rows) (c .before .before .before .before .before .before .before .before .before .loop .count) (c .before .before .before .before .before .before .before .before .before .loop .at) (c .before .before .before .before .before .before .before .before .before .loop .inv) (c .before .before .before .before .before .before .before .before .frame-at .result) (c .before .before .before .before .before .before .before .before .frame-at .ensures) (c .before .before .before .before .before .before .before .if1 .left) (c .before .before .before .before .before .if2 .left))
+
+-- src/reader.rt:276:5
+loop-again : tie.Need-loop-again Inv-loop μ-loop
+loop-again c = rows-next (c .before .before .before .before .before .before .before .before .before .before .before .before .args .file .now) (c .before .before .before .before .before .before .before .before .before .before .before .before .args .start) (c .before .before .before .before .before .before .before .before .before .before .before .before .args .states) (c .before .before .before .before .before .before .before .before .before .before .before .before .args .symbols) (c .before .before .before .before .before .before .before .before .before .before .before .before .args .arities .now) (c .before .before .before .before .before .before .before .before .before .loop .rows) (c .before .before .before .before .before .before .before .before .before .loop .count) (c .before .before .before .before .before .before .before .before .before .loop .at) (c .before .before .before .before .before .before .before .before .before .loop .inv) (c .before .before .before .before .before .before .before .before .frame-at .result) (c .before .before .before .before .before .before .before .before .frame-at .ensures) (c .before .before .before .before .before .before .before .if1 .left) (c .before .before .before .before .before .if2 .left) (c .before .before .before .before .if4 .left) (c .before .before .row-at .result) (c .before .before .row-at .ensures) (c .before .if5 .left)
+
+pub rows-of-spec : {M : Type 1} → statement M
+rows-of-spec =
+    tie.close
+    (tie.spec
+    Inv-loop
+    μ-loop
+    no-rows-requires
+    loop-holds
+    frame-at-requires
+    returns
+    add-if3
+    returns-2
+    returns-3
+    returns-4
+    cast-size
+    row-at-requires
+    returns-5
+    cast-rows
+    mul-rows
+    array-set-from-rows
+    add-count
+    add-at
+    add-at-2
+    loop-less
+    loop-again)

@@ -1,0 +1,65 @@
+use native.Mathlib.Omega.{arith}
+use Rattle.automaton.proofs.Sources.{SourcesSoFar, sources-start, sources-bad, sources-next, sources-done}
+use Prim.Native.Nat.{_-_}
+use Rattle.automaton.proofs.reader.sources_at.Statement.{statement}
+use Rattle.automaton.proofs.reader.sources_at.Tie as tie
+use Rattle.automaton.proofs.reader.sources_at.Reads as reads
+use Rattle.automaton.proofs.reader.sources_at.Lts as lts
+
+abbrev Inv-loop : tie.InvT-loop
+Inv-loop file at arity states places₀ i₀ places i = SourcesSoFar file at arity states places i
+
+abbrev μ-loop : tie.MeasureT-loop
+μ-loop file at arity states places₀ i₀ places i = arity - i
+
+-- src/reader.rt:202:5
+loop-holds : tie.Need-loop-holds Inv-loop μ-loop
+loop-holds c = sources-start (c .args .file .now) (c .args .at) (c .args .arity) (c .args .states)
+
+-- src/reader.rt:203:26
+add-state : tie.Need-add-state Inv-loop μ-loop
+add-state c = omega arith
+
+-- src/reader.rt:203:21
+shared-slice-read-state : tie.Need-shared-slice-read-state Inv-loop μ-loop
+shared-slice-read-state c = omega arith
+
+-- src/reader.rt:205:13
+returns : tie.Need-returns Inv-loop μ-loop
+returns c = sources-bad (c .before .before .before .before .args .file .now) (c .before .before .before .before .args .at) (c .before .before .before .before .args .arity) (c .before .before .before .before .args .states) (c .before .before .before .before .pre .0) (c .before .before .before .before .pre .1) (c .before .before .before .loop .places) (c .before .before .before .loop .i) (c .before .before .before .loop .inv) (c .before .before .loop-test .taken) (c .if1 .taken)
+
+-- src/reader.rt:207:9
+array-write-places : tie.Need-array-write-places Inv-loop μ-loop
+array-write-places c = omega arith
+
+-- src/reader.rt:208:9
+add-i : tie.Need-add-i Inv-loop μ-loop
+add-i c = omega arith
+
+-- src/reader.rt:202:5
+loop-less : tie.Need-loop-less Inv-loop μ-loop
+loop-less c = omega arith
+
+-- src/reader.rt:202:5
+loop-again : tie.Need-loop-again Inv-loop μ-loop
+loop-again c = sources-next (c .before .before .before .before .args .file .now) (c .before .before .before .before .args .at) (c .before .before .before .before .args .arity) (c .before .before .before .before .args .states) (c .before .before .before .before .pre .0) (c .before .before .before .before .pre .1) (c .before .before .before .loop .places) (c .before .before .before .loop .i) (c .before .before .before .loop .inv) (c .before .before .loop-test .taken) (c .if1 .left)
+
+-- src/reader.rt:196:1
+returns-2 : tie.Need-returns-2 Inv-loop μ-loop
+returns-2 c = sources-done (c .before .before .args .file .now) (c .before .before .args .at) (c .before .before .args .arity) (c .before .before .args .states) (c .before .before .pre .0) (c .before .before .pre .1) (c .before .loop .places) (c .before .loop .i) (c .before .loop .inv) (c .loop-test .left)
+
+pub sources-at-spec : {M : Type 1} → statement M
+sources-at-spec =
+    tie.close
+    (tie.spec
+    Inv-loop
+    μ-loop
+    loop-holds
+    add-state
+    shared-slice-read-state
+    returns
+    array-write-places
+    add-i
+    loop-less
+    loop-again
+    returns-2)

@@ -1,0 +1,99 @@
+use Prim.Native.Nat.{_-_}
+use lib.ListN.{length}
+use native.Mathlib.Omega.{arith}
+use Rattle.automaton.proofs.Symbols.{SymbolsSoFar, symbols-start, symbols-fault, symbols-done, symbols-there, symbols-many, symbols-wide, symbols-next}
+use borrow.Author.Needs.{needs}
+use Rattle.automaton.proofs.reader.symbols_of.Statement.{statement}
+use Rattle.automaton.proofs.reader.symbols_of.Tie as tie
+use Rattle.automaton.proofs.reader.symbols_of.Reads as reads
+use Rattle.automaton.proofs.reader.symbols_of.Lts as lts
+use Rattle.automaton.proofs.no_arities.Reads as no-arities-reads
+use Rattle.automaton.proofs.reader.frame_at.Reads as frame-at-reads
+
+abbrev Inv-loop : tie.InvT-loop
+Inv-loop file arities₀ count₀ at₀ arities count at = SymbolsSoFar file arities count at
+
+abbrev μ-loop : tie.MeasureT-loop
+μ-loop file arities₀ count₀ at₀ arities count at = length file - at
+
+-- src/reader.rt:171:23
+no-arities-requires : tie.Need-no-arities-requires Inv-loop μ-loop
+no-arities-requires c κs = search needs
+
+-- src/reader.rt:174:5
+loop-holds : tie.Need-loop-holds Inv-loop μ-loop
+loop-holds c = rw (c .no-arities .ensures) (symbols-start (c .before .before .args .file .now) (c .before .before .pre))
+
+-- src/reader.rt:175:13
+frame-at-requires : tie.Need-frame-at-requires Inv-loop μ-loop
+frame-at-requires c κs = c .loop .inv .within
+
+-- src/reader.rt:178:13
+returns : tie.Need-returns Inv-loop μ-loop
+returns c = symbols-fault (c .before .before .before .before .before .args .file .now) (c .before .before .loop .arities) (c .before .before .loop .count) (c .before .before .loop .at) (c .before .before .loop .inv) (c .before .frame-at .result) (c .before .frame-at .ensures) (c .if1 .taken)
+
+-- src/reader.rt:181:13
+returns-2 : tie.Need-returns-2 Inv-loop μ-loop
+returns-2 c = symbols-done (c .before .before .before .before .before .before .before .args .file .now) (c .before .before .before .before .loop .arities) (c .before .before .before .before .loop .count) (c .before .before .before .before .loop .at) (c .before .before .before .before .loop .inv) (c .before .before .before .frame-at .result) (c .before .before .before .frame-at .ensures) (c .before .before .if1 .left) (c .if2 .taken)
+
+-- src/reader.rt:183:26
+add-arity : tie.Need-add-arity Inv-loop μ-loop
+add-arity c = search needs
+
+-- src/reader.rt:183:21
+shared-slice-read-arity : tie.Need-shared-slice-read-arity Inv-loop μ-loop
+shared-slice-read-arity c = omega (arith, symbols-there (c .before .before .before .before .before .before .before .before .args .file .now) (c .before .before .before .before .before .loop .arities) (c .before .before .before .before .before .loop .count) (c .before .before .before .before .before .loop .at) (c .before .before .before .before .before .loop .inv) (c .before .before .before .before .frame-at .result) (c .before .before .before .before .frame-at .ensures) (c .before .before .before .if1 .left) (c .before .if2 .left))
+
+-- src/reader.rt:185:13
+returns-3 : tie.Need-returns-3 Inv-loop μ-loop
+returns-3 c = symbols-many (c .before .before .before .before .before .before .before .before .before .args .file .now) (c .before .before .before .before .before .before .loop .arities) (c .before .before .before .before .before .before .loop .count) (c .before .before .before .before .before .before .loop .at) (c .before .before .before .before .before .before .loop .inv) (c .before .before .before .before .before .frame-at .result) (c .before .before .before .before .before .frame-at .ensures) (c .before .before .before .before .if1 .left) (c .before .before .if2 .left) (c .if3 .taken)
+
+-- src/reader.rt:188:13
+returns-4 : tie.Need-returns-4 Inv-loop μ-loop
+returns-4 c = symbols-wide (c .before .before .before .before .before .before .before .before .before .before .args .file .now) (c .before .before .before .before .before .before .before .loop .arities) (c .before .before .before .before .before .before .before .loop .count) (c .before .before .before .before .before .before .before .loop .at) (c .before .before .before .before .before .before .before .loop .inv) (c .before .before .before .before .before .before .frame-at .result) (c .before .before .before .before .before .before .frame-at .ensures) (c .before .before .before .before .before .if1 .left) (c .before .before .before .if2 .left) (c .before .if3 .left) (c .if4 .taken)
+
+-- src/reader.rt:190:17
+cast-arities : tie.Need-cast-arities Inv-loop μ-loop
+cast-arities c = search needs
+
+-- src/reader.rt:190:9
+array-write-arities : tie.Need-array-write-arities Inv-loop μ-loop
+array-write-arities c = search needs
+
+-- src/reader.rt:191:9
+add-count : tie.Need-add-count Inv-loop μ-loop
+add-count c = search needs
+
+-- src/reader.rt:192:9
+add-at : tie.Need-add-at Inv-loop μ-loop
+add-at c = search needs
+
+-- src/reader.rt:174:5
+loop-less : tie.Need-loop-less Inv-loop μ-loop
+loop-less c = omega (arith, symbols-there (c .before .before .before .before .before .before .before .before .before .before .args .file .now) (c .before .before .before .before .before .before .before .loop .arities) (c .before .before .before .before .before .before .before .loop .count) (c .before .before .before .before .before .before .before .loop .at) (c .before .before .before .before .before .before .before .loop .inv) (c .before .before .before .before .before .before .frame-at .result) (c .before .before .before .before .before .before .frame-at .ensures) (c .before .before .before .before .before .if1 .left) (c .before .before .before .if2 .left))
+
+-- src/reader.rt:174:5
+loop-again : tie.Need-loop-again Inv-loop μ-loop
+loop-again c = symbols-next (c .before .before .before .before .before .before .before .before .before .before .args .file .now) (c .before .before .before .before .before .before .before .loop .arities) (c .before .before .before .before .before .before .before .loop .count) (c .before .before .before .before .before .before .before .loop .at) (c .before .before .before .before .before .before .before .loop .inv) (c .before .before .before .before .before .before .frame-at .result) (c .before .before .before .before .before .before .frame-at .ensures) (c .before .before .before .before .before .if1 .left) (c .before .before .before .if2 .left) (c .before .if3 .left) (c .if4 .left)
+
+pub symbols-of-spec : {M : Type 1} → statement M
+symbols-of-spec =
+    tie.close
+    (tie.spec
+    Inv-loop
+    μ-loop
+    no-arities-requires
+    loop-holds
+    frame-at-requires
+    returns
+    returns-2
+    add-arity
+    shared-slice-read-arity
+    returns-3
+    returns-4
+    cast-arities
+    array-write-arities
+    add-count
+    add-at
+    loop-less
+    loop-again)

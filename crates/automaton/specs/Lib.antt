@@ -1,0 +1,5 @@
+pub mod Held
+pub mod File
+pub mod Checks
+pub mod Answers
+pub mod Inside
