@@ -1,0 +1,72 @@
+-- Soundness, and what it rests on, is decidable.
+use Prim.Native.Nat.{ℕ, zero, suc, _+_, _*_, _<_, _≤_}
+use native.Mathlib.Omega.{arith}
+use native.Mathlib.Decide.{decLe, decLt, ℕ-discrete}
+use mathlib.Core.Path.{_≡_, refl, sym, _∙_, ap}
+use mathlib.Core.List.{List, [], _∷_, _++_}
+use lib.ListN.{length}
+use Rattle.automaton.specs.Held.{All}
+use Rattle.expressions.specs.Nodes.{Shape, Node, Table, symbolOf, arityOf, children, unused}
+use Rattle.expressions.specs.Words.{nodeWidth, readNode, tableOf}
+use Rattle.expressions.specs.Soundness.{Labelled, Fits, completed, SoundNode, SoundNodes, mostNodes, Sound}
+use Rattle.expressions.specs.Making.{Room}
+use Rattle.expressions.proofs.Soundness.{sound-none, sound-snoc, sound-front, sound-last}
+
+both : {A B : Type 0} → Dec A → Dec B → Dec (A × B)
+both (yes a) (yes b) = yes (a, b)
+both (yes a) (no n) = no (λ p. n (p .1))
+both (no n) d = no (λ p. n (p .0))
+
+-- a claim that is equivalent to a decided one
+decided-as : {A B : Type 0} → Dec A → (A → B) → (B → A) → Dec B
+decided-as (yes a) f g = yes (f a)
+decided-as (no n) f g = no (λ b. n (g b))
+
+dec-all : {A : Type 0} (P : A → Type 0) → ((x : A) → Dec (P x)) → (xs : List A) → Dec (All P xs)
+dec-all P d [] = yes tt
+dec-all P d (x ∷ xs) = both (d x) (dec-all P d xs)
+
+dec-labelled : (kind label : ℕ) → Dec (Labelled kind label)
+dec-labelled zero label = ℕ-discrete label 0
+dec-labelled (suc zero) label = decLt label 16
+dec-labelled (suc (suc zero)) label = both (decLt (symbolOf label) 32) (decLe (arityOf label) 3)
+dec-labelled (suc (suc (suc zero))) label = ℕ-discrete label 0
+dec-labelled (suc (suc (suc (suc zero)))) label = decLt label 16
+dec-labelled (suc (suc (suc (suc (suc zero))))) label = decLt label 16
+dec-labelled (suc (suc (suc (suc (suc (suc k)))))) label = no (λ h. h)
+
+pub dec-fits : (number : ℕ) (shape : Shape) → Dec (Fits number shape)
+dec-fits number shape =
+    decided-as
+    (both (dec-labelled (shape .kind) (shape .label))
+    (both (dec-all (λ c. c < number) (λ c. decLt c number) (children shape)) (dec-all (λ c. c ≡ 0) (λ c. ℕ-discrete c 0) (unused shape))))
+    (λ p. record { labelled = p .0; earlier = p .1 .0; zeros = p .1 .1 })
+    (λ f. (f .labelled, (f .earlier, f .zeros)))
+
+pub dec-room : (words : List ℕ) (count : ℕ) → Dec (Room words count)
+dec-room words count =
+    decided-as (both (decLt count mostNodes) (decLe (nodeWidth * suc count) (length words))) (λ p. record { few = p .0; held = p .1 }) (λ r. (r .few, r .held))
+
+dec-node : (earlier : Table) (node : Node) → Dec (SoundNode earlier node)
+unfolding completed
+dec-node earlier node =
+    decided-as (both (dec-fits (length earlier) (node .shape)) (ℕ-discrete (node .opens) (completed earlier (node .shape) .opens)))
+    (λ p. record { fits = p .0; right = right (p .1) }) (λ s. (s .fits, ap (λ (n : Node). n .opens) (s .right)))
+  where
+    right : node .opens ≡ completed earlier (node .shape) .opens → node ≡ completed earlier (node .shape)
+    right e = λ x. record { shape = node .shape; opens = e x }
+
+dec-nodes : (words : List ℕ) (count : ℕ) → Dec (SoundNodes (tableOf words count))
+unfolding tableOf
+dec-nodes words zero = yes sound-none
+dec-nodes words (suc count) =
+    decided-as (both (dec-nodes words count) (dec-node (tableOf words count) (readNode words count)))
+    (λ p. sound-snoc (tableOf words count) (readNode words count) (p .0) (p .1))
+    (λ s. (sound-front (tableOf words count) (readNode words count ∷ []) s, sound-last (tableOf words count) (readNode words count) s))
+
+pub dec-sound : (words : List ℕ) (count answer : ℕ) → Dec (Sound words count answer)
+dec-sound words count answer =
+    decided-as
+    (both (decLe 1 count) (both (decLe count mostNodes) (both (decLe (nodeWidth * count) (length words)) (both (decLt answer count) (dec-nodes words count)))))
+    (λ p. record { some = p .0; few = p .1 .0; held = p .1 .1 .0; within = p .1 .1 .1 .0; kept = p .1 .1 .1 .1 })
+    (λ s. (s .some, (s .few, (s .held, (s .within, s .kept)))))

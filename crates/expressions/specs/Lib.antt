@@ -1,0 +1,11 @@
+pub mod Fillings
+pub mod Expressions
+pub mod Nodes
+pub mod Words
+pub mod Unfolding
+pub mod Soundness
+pub mod Making
+pub mod Sizes
+pub mod Listing
+pub mod Writing
+pub mod Answers

@@ -1,0 +1,14 @@
+pub mod Truth
+pub mod Lists
+pub mod Spelling
+pub mod Reaching
+pub mod Piling
+pub mod Answers
+pub mod Scanning
+pub mod Values
+pub mod Tabling
+pub mod Firing
+pub mod Stacking
+pub mod Producing
+pub mod Files
+pub mod Promised

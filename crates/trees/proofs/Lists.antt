@@ -1,0 +1,154 @@
+-- Lists: what some or each element is, what stands at a place, and lists in arrays that are longer.
+use Prim.Native.Nat.{ℕ, zero, suc, _+_, _-_, _<_}
+use native.Mathlib.Decide.{decLt}
+use native.Mathlib.Omega.{arith}
+use mathlib.Core.Bool.{Bool, true, false, false≢true, _||_}
+use mathlib.Core.Logic.{_⊎_, inl, inr}
+use mathlib.Core.Path.{_≡_, refl, sym, _∙_, ap, ap₂, subst}
+use mathlib.Core.List.{List, [], _∷_, _++_, map, append-assoc, List·Memᴰ, List·Memᴰ·head, List·Memᴰ·tail, List·Memᴰ·cases-cons}
+use lib.ListN.{length, getD, take, replicate, length-append, length-take, length-replicate, getD-replicate, List·getD-append, List·getD-eq-default}
+use lib.Seq.{take-at, getD-take, getD-append-add}
+use Rattle.automaton.specs.Held.{All}
+use Rattle.automaton.specs.Answers.{filled, firsts}
+use Rattle.trees.specs.Piles.{any, anyBelow}
+use Rattle.trees.proofs.Truth.{or-left, or-right, or-false, or-assoc}
+
+-- ---- some element passes a test
+
+module _ {A : Type 0} (test : A → Bool) where
+  pub any-pick : (xs : List A) → any test xs ≡ true → (x : A) × List·Memᴰ x xs × (test x ≡ true)
+  unfolding any
+  any-pick [] e = absurd (false≢true e)
+  any-pick (x ∷ xs) e = go (test x) refl (any-pick xs)
+    where
+      go : (b : Bool) → test x ≡ b → (any test xs ≡ true → (y : A) × List·Memᴰ y xs × (test y ≡ true)) → (y : A) × List·Memᴰ y (x ∷ xs) × (test y ≡ true)
+      go true d later = (x, List·Memᴰ·head refl, d)
+      go false d later = let r = later (rw d at e) in (r .0, List·Memᴰ·tail (r .1), r .2)
+
+  pub any-mem : (x : A) (xs : List A) → List·Memᴰ x xs → test x ≡ true → any test xs ≡ true
+  unfolding any
+  any-mem x [] m e = elim m [ ]
+  any-mem x (y ∷ ys) m e = go (List·Memᴰ·cases-cons m) (λ l. any-mem x ys l e)
+    where
+      go : (x ≡ y) ⊎ List·Memᴰ x ys → (List·Memᴰ x ys → any test ys ≡ true) → any test (y ∷ ys) ≡ true
+      go (inl d) later = rw (← d, e)
+      go (inr l) later = or-right (test y) (any test ys) (later l)
+
+  pub any-last : (xs : List A) (x : A) → any test (xs ++ (x ∷ [])) ≡ (any test xs || test x)
+  unfolding any
+  any-last [] x = or-false (test x)
+  any-last (y ∷ ys) x = ap (λ (b : Bool). test y || b) (any-last ys x) ∙ sym (or-assoc (test y) (any test ys) (test x))
+
+  -- two tests that agree on the elements
+  pub any-same : (other : A → Bool) (xs : List A) → ((x : A) → List·Memᴰ x xs → test x ≡ other x) → any test xs ≡ any other xs
+  unfolding any
+  any-same other [] e = refl
+  any-same other (x ∷ xs) e = ap₂ _||_ (e x (List·Memᴰ·head refl)) (any-same other xs (λ y m. e y (List·Memᴰ·tail m)))
+
+-- ---- some number below a bound passes a test
+
+pub below-pick : (n : ℕ) (test : ℕ → Bool) → anyBelow n test ≡ true → (i : ℕ) × (i < n) × (test i ≡ true)
+unfolding anyBelow
+below-pick zero test e = absurd (false≢true e)
+below-pick (suc n) test e = go (anyBelow n test) refl (below-pick n test)
+  where
+    go : (b : Bool) → anyBelow n test ≡ b → (anyBelow n test ≡ true → (i : ℕ) × (i < n) × (test i ≡ true)) → (i : ℕ) × (i < suc n) × (test i ≡ true)
+    go true d later = let r = later d in (r .0, omega (arith, r .1), r .2)
+    go false d later = (n, omega arith, rw d at e)
+
+pub below-some : (n : ℕ) (test : ℕ → Bool) (i : ℕ) → i < n → test i ≡ true → anyBelow n test ≡ true
+unfolding anyBelow
+below-some zero test i h e = absurd (omega arith)
+below-some (suc n) test i h e = go (decLt i n) (λ l. below-some n test i l e)
+  where
+    go : Dec (i < n) → (i < n → anyBelow n test ≡ true) → (anyBelow n test || test n) ≡ true
+    go (yes l) later = or-left (anyBelow n test) (test n) (later l)
+    go (no l) later = let same : i ≡ n = omega arith in or-right (anyBelow n test) (test n) (subst (λ (j : ℕ). test j ≡ true) same e)
+
+-- ---- each element
+
+module _ {A : Type 0} (P : A → Type 0) where
+  pub all-mem : (x : A) (xs : List A) → List·Memᴰ x xs → All P xs → P x
+  all-mem x [] m a = elim m [ ]
+  all-mem x (y ∷ ys) m a = go (List·Memᴰ·cases-cons m) (λ l. all-mem x ys l (a .1))
+    where
+      go : (x ≡ y) ⊎ List·Memᴰ x ys → (List·Memᴰ x ys → P x) → P x
+      go (inl d) later = rw d (a .0)
+      go (inr l) later = later l
+
+  pub all-at : (xs : List A) (i : ℕ) (d : A) → i < length xs → All P xs → P (getD xs i d)
+  all-at [] i d h a = absurd (omega arith)
+  all-at (x ∷ xs) zero d h a = a .0
+  all-at (x ∷ xs) (suc i) d h a = all-at xs i d (omega arith) (a .1)
+
+  pub all-map : (Q : A → Type 0) (xs : List A) → ((x : A) → P x → Q x) → All P xs → All Q xs
+  all-map Q [] f a = tt
+  all-map Q (x ∷ xs) f a = (f x (a .0), all-map Q xs f (a .1))
+
+-- ---- places
+
+module _ {A : Type 0} where
+  -- inside a list, what would stand past its end does not matter
+  pub getD-inside : (xs : List A) (i : ℕ) (d e : A) → i < length xs → getD xs i d ≡ getD xs i e
+  getD-inside [] i d e h = absurd (omega arith)
+  getD-inside (x ∷ xs) zero d e h = refl
+  getD-inside (x ∷ xs) (suc i) d e h = getD-inside xs i d e (omega arith)
+
+  pub member-at : (xs : List A) (i : ℕ) (d : A) → i < length xs → List·Memᴰ (getD xs i d) xs
+  member-at [] i d h = absurd (omega arith)
+  member-at (x ∷ xs) zero d h = List·Memᴰ·head refl
+  member-at (x ∷ xs) (suc i) d h = List·Memᴰ·tail (member-at xs i d (omega arith))
+
+  pub place-of : (x : A) (xs : List A) (d : A) → List·Memᴰ x xs → (i : ℕ) × (i < length xs) × (getD xs i d ≡ x)
+  place-of x [] d m = elim m [ ]
+  place-of x (y ∷ ys) d m = go (List·Memᴰ·cases-cons m) (place-of x ys d)
+    where
+      go : (x ≡ y) ⊎ List·Memᴰ x ys → (List·Memᴰ x ys → (i : ℕ) × (i < length ys) × (getD ys i d ≡ x))
+          → (i : ℕ) × (i < length (y ∷ ys)) × (getD (y ∷ ys) i d ≡ x)
+      go (inl e) later = (0, omega arith, sym e)
+      go (inr l) later = let r = later l in (suc (r .0), omega (arith, r .1), r .2)
+
+module _ {A B : Type 0} (f : A → B) where
+  pub length-map : (xs : List A) → length (map f xs) ≡ length xs
+  length-map [] = refl
+  length-map (x ∷ xs) = ap suc (length-map xs)
+
+  pub map-append : (xs ys : List A) → map f (xs ++ ys) ≡ map f xs ++ map f ys
+  map-append [] ys = refl
+  map-append (x ∷ xs) ys = ap (f x ∷_) (map-append xs ys)
+
+  pub getD-map-inside : (xs : List A) (i : ℕ) (d : A) (e : B) → i < length xs → getD (map f xs) i e ≡ f (getD xs i d)
+  getD-map-inside [] i d e h = absurd (omega arith)
+  getD-map-inside (x ∷ xs) zero d e h = refl
+  getD-map-inside (x ∷ xs) (suc i) d e h = getD-map-inside xs i d e (omega arith)
+
+-- ---- lists in arrays
+
+module _ {A : Type 0} (n : ℕ) (unused : A) (xs : List A) where
+  pub getD-filled : (i : ℕ) (d : A) → i < n → getD (filled n unused xs) i d ≡ getD xs i unused
+  unfolding filled
+  getD-filled i d h = go (decLt i (length xs))
+    where
+      go : Dec (i < length xs) → getD (xs ++ replicate (n - length xs) unused) i d ≡ getD xs i unused
+      go (yes l) = List·getD-append xs (replicate (n - length xs) unused) d i l ∙ getD-inside xs i d unused l
+      go (no l) =
+          let past : length xs + (i - length xs) ≡ i = omega arith in
+          ap (λ (m : ℕ). getD (xs ++ replicate (n - length xs) unused) m d) (sym past)
+          ∙ getD-append-add xs (replicate (n - length xs) unused) (i - length xs) d
+          ∙ getD-replicate (n - length xs) (i - length xs) unused d (omega arith)
+          ∙ sym (List·getD-eq-default xs unused (omega arith))
+
+  pub getD-firsts : (i : ℕ) (d : A) → i < n → getD (firsts n unused xs) i d ≡ getD xs i unused
+  unfolding firsts
+  getD-firsts i d h = getD-take n (filled n unused xs) i d h ∙ getD-filled i d h
+
+  pub length-firsts : length (firsts n unused xs) ≡ n
+  unfolding firsts filled
+  length-firsts = length-take n (xs ++ replicate (n - length xs) unused) ∙ simp (length-append, length-replicate) (omega arith)
+
+-- a list that was put into an array comes back
+pub firsts-filled : {A : Type 0} (n m : ℕ) (unused : A) (xs : List A) → length xs ≡ n → firsts n unused (filled m unused xs) ≡ xs
+unfolding firsts filled
+firsts-filled n m unused xs e =
+    ap (take n) (append-assoc xs (replicate (m - length xs) unused) (replicate (n - length (xs ++ replicate (m - length xs) unused)) unused))
+    ∙ take-at xs (replicate (m - length xs) unused ++ replicate (n - length (xs ++ replicate (m - length xs) unused)) unused) n e
