@@ -24,11 +24,10 @@ use Rattle.automaton.proofs.Places.{filled-length, filled-take, firsts-
 
 -- a byte string reads as an automaton exactly when that is valid and the bytes are its file
 pub reads-exactly : (bytes : List ℕ) (held : Held) → Bytes bytes → (verdict bytes ≡ holds held) ↔ (Valid held × (bytes ≡ fileOf held))
-reads-exactly bytes held b =
-    (
-      λ e. (verdict-valid bytes held e, verdict-file bytes held b e),
-      λ p. ap verdict (p .1) ∙ file-verdict held (p .0),
-    )
+reads-exactly bytes held b = (
+  λ e. (verdict-valid bytes held e, verdict-file bytes held b e),
+  λ p. ap verdict (p .1) ∙ file-verdict held (p .0),
+)
 
 -- ---- the value of what a file holds says what the file holds
 
@@ -81,16 +80,16 @@ pub dec-valid : (held : Held) → Dec (Valid held)
 dec-valid held =
     decided
     (λ p.
-      record {
-        some-state = p .0;
-        few-states = p .1 .0;
-        finals-within = p .1 .1 .0;
-        some-symbol = p .1 .1 .1 .0;
-        few-symbols = p .1 .1 .1 .1 .0;
-        small-arities = p .1 .1 .1 .1 .1 .0;
-        few-rules = p .1 .1 .1 .1 .1 .1 .0;
-        valid-rules = p .1 .1 .1 .1 .1 .1 .1;
-      })
+    record {
+      some-state = p .0;
+      few-states = p .1 .0;
+      finals-within = p .1 .1 .0;
+      some-symbol = p .1 .1 .1 .0;
+      few-symbols = p .1 .1 .1 .1 .0;
+      small-arities = p .1 .1 .1 .1 .1 .0;
+      few-rules = p .1 .1 .1 .1 .1 .1 .0;
+      valid-rules = p .1 .1 .1 .1 .1 .1 .1;
+    })
     (λ v. (v .some-state, (v .few-states, (v .finals-within, (v .some-symbol, (v .few-symbols, (v .small-arities, (v .few-rules, v .valid-rules))))))))
     (pair (decLe 1 (held .states))
     (pair (decLe (held .states) 16)
@@ -119,7 +118,7 @@ module _ (value : Automaton) (before after : List ℕ) (answer : Writing) (writt
 
   -- reading what was written gives the same automaton, with unused places 0
   pub written-reads : answer .refusal .number ≡ 0
-    → readAnswer (take (answer .length) after) ≡ record { refusal = record { number = 0 }; automaton = placed (heldBy value) }
+      → readAnswer (take (answer .length) after) ≡ record { refusal = record { number = 0 }; automaton = placed (heldBy value) }
   unfolding readAnswer readingOf
   written-reads z =
       let f = written-file z in
@@ -128,8 +127,8 @@ module _ (value : Automaton) (before after : List ℕ) (answer : Writing) (writt
 
 -- a file that reads and is written back is the same bytes
 pub reads-written : (bytes before after : List ℕ) (held : Held) (answer : Writing) → Bytes bytes → verdict bytes ≡ holds held
-  → Written (readAnswer bytes .automaton) before after answer → length bytes ≤ length before
-  → (answer ≡ writing 0 (length bytes)) × (after ≡ bytes ++ drop (length bytes) before)
+    → Written (readAnswer bytes .automaton) before after answer → length bytes ≤ length before
+    → (answer ≡ writing 0 (length bytes)) × (after ≡ bytes ++ drop (length bytes) before)
 unfolding readAnswer readingOf
 reads-written bytes before after held answer b e w h =
     let valid = verdict-valid bytes held e in
@@ -147,6 +146,7 @@ written-once value before after other r s w v = go (dec-valid (heldBy value)) (d
   where
     same : {x : Writing} {y : List ℕ} → (r ≡ x) × (after ≡ y) → (s ≡ x) × (other ≡ y) → (r ≡ s) × (after ≡ other)
     same p q = (p .0 ∙ sym (q .0), p .1 ∙ sym (q .1))
+
     go : Dec (Valid (heldBy value)) → Dec (length (fileOf (heldBy value)) ≤ length before) → (r ≡ s) × (after ≡ other)
     go (no n) d = same (w .unfit n) (v .unfit n)
     go (yes h) (yes l) = same (w .done h l) (v .done h l)

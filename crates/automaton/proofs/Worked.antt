@@ -20,7 +20,7 @@ heldP =
       finals = 2;
       arities = 0 ∷ 2 ∷ [];
       rules = record { symbol = 0; target = 0; sources = [] } ∷ record { symbol = 1; target = 1; sources = 0 ∷ 0 ∷ [] }
-        ∷ record { symbol = 1; target = 1; sources = 1 ∷ 0 ∷ [] } ∷ [];
+          ∷ record { symbol = 1; target = 1; sources = 1 ∷ 0 ∷ [] } ∷ [];
     }
 
 pub P-holds : verdict P ≡ holds heldP
