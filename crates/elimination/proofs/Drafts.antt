@@ -1,0 +1,270 @@
+-- Document 01, "Worked drafts": what the definitions give for them, node by node, and which trees they denote. States are as few as fit, and symbols are numbered in the order in which they are named.
+use Prim.Native.Nat.{ℕ, _^_}
+use native.Mathlib.Omega.{arith}
+use mathlib.Core.Path.{_≡_, refl, sym, _∙_, ap, subst}
+use mathlib.Core.Bool.{true}
+use mathlib.Core.List.{List, [], _∷_, map, List·Memᴰ, List·Memᴰ·head, List·Memᴰ·tail, List·Memᴰ·not-nil}
+use mathlib.Core.Logic.{_⊎_, inl, inr, _↔_}
+use lib.ListN.{length}
+use borrow.Author.Tests.{eqb-true, eq-eqb}
+use Rattle.sets.specs.Members.{has, setOf, howMany, size, emptySet, oneSet, union, without}
+use Rattle.sets.proofs.Bits.{has-pow}
+use Rattle.automaton.specs.Held.{Rule, Held, Valid}
+use Rattle.trees.specs.Trees.{Tree, Forest, hole, node, []ᶠ, _∷ᶠ_}
+use Rattle.trees.specs.Runs.{Reaches, ReachesEach, Accepted}
+use Rattle.expressions.specs.Expressions.{Denotes}
+use Rattle.expressions.specs.Nodes.{labelOf, children, childCount}
+use Rattle.expressions.specs.Words.{encode, wordsOf}
+use Rattle.expressions.specs.Unfolding.{exprAt}
+use Rattle.expressions.specs.Soundness.{catOpens, opensOf, opensIn, completed}
+use Rattle.elimination.specs.RowLists.{those, ascending, finalStates}
+use Rattle.elimination.specs.Stages.{NodeRow, holesTable, ruleShape, rulesTable, startTable, ruleRows, start, altMade, catMade, iterMade, joinMadeFrom, joinMade, loopingNode, incomingNode, outgoingNode, standInMade, replacedMade, replacedRows, remainsNode, eliminatedStage, eliminatedStages, stageAfter, joinStage, converted, waitsFor, nodeBound, boundOf}
+use Rattle.elimination.proofs.Theorem.{wholly-ascending}
+
+abbrev pub rule : ℕ → ℕ → List ℕ → Rule
+rule symbol target sources = record { symbol = symbol; target = target; sources = sources }
+
+-- "File P"
+abbrev pub P : Held
+P = record { states = 2; finals = 2; arities = 0 ∷ 2 ∷ []; rules = rule 0 0 [] ∷ rule 1 1 (0 ∷ 0 ∷ []) ∷ rule 1 1 (1 ∷ 0 ∷ []) ∷ [] }
+
+-- "a to 0, b to 0, g(0,0) to 1, final 1"
+abbrev pub pairs : Held
+pairs = record { states = 2; finals = 2; arities = 0 ∷ 0 ∷ 2 ∷ []; rules = rule 0 0 [] ∷ rule 1 0 [] ∷ rule 2 1 (0 ∷ 0 ∷ []) ∷ [] }
+
+-- "a to 0, g(0,0) to 0, final 0"
+abbrev pub nested : Held
+nested = record { states = 1; finals = 1; arities = 0 ∷ 2 ∷ []; rules = rule 0 0 [] ∷ rule 1 0 (0 ∷ 0 ∷ []) ∷ [] }
+
+-- "h(0) to 0, final 0"
+abbrev pub endless : Held
+endless = record { states = 1; finals = 1; arities = 1 ∷ []; rules = rule 0 0 (0 ∷ []) ∷ [] }
+
+-- "One state, final, no rows."
+abbrev pub rowless : Held
+rowless = record { states = 1; finals = 1; arities = 0 ∷ []; rules = [] }
+
+-- "a to 0, no final"
+abbrev pub finalless : Held
+finalless = record { states = 1; finals = 0; arities = 0 ∷ []; rules = rule 0 0 [] ∷ [] }
+
+-- "States 0 to 2, a to 0, h(1) to 0, g(0) to 2, final 2"
+abbrev pub unused : Held
+unused = record { states = 3; finals = 4; arities = 0 ∷ 1 ∷ 1 ∷ []; rules = rule 0 0 [] ∷ rule 1 0 (1 ∷ []) ∷ rule 2 2 (0 ∷ []) ∷ [] }
+
+-- an answer of so many nodes
+abbrev pub Gives : Held → ℕ → ℕ → Type 0
+Gives held answer count = (converted held .node ≡ answer) × (length (converted held .table) ≡ count)
+
+abbrev pub rowAt : ℕ → ℕ → NodeRow
+rowAt i target = record { node = i; target = target }
+
+pub record Numbers : Type 0 where
+  -- "P: 10 nodes, answer 9 .. Bound 17."
+  pub P-gives : Gives P 9 10
+  pub P-bound : boundOf P ≡ 17
+  pub P-words : wordsOf (converted P .table)
+      ≡ 0 ∷ 0 ∷ 0 ∷ 0 ∷ 0 ∷ 0 ∷ 1 ∷ 0 ∷ 0 ∷ 0 ∷ 0 ∷ 1 ∷ 1 ∷ 1 ∷ 0 ∷ 0 ∷ 0 ∷ 2 ∷ 2 ∷ 0 ∷ 0 ∷ 0 ∷ 0 ∷ 0 ∷ 2 ∷ 513 ∷ 1 ∷ 1 ∷ 0 ∷ 1 ∷ 2 ∷ 513 ∷ 2 ∷ 1 ∷ 0 ∷ 3
+      ∷ 4 ∷ 0 ∷ 4 ∷ 3 ∷ 0 ∷ 0 ∷ 4 ∷ 0 ∷ 5 ∷ 3 ∷ 0 ∷ 2 ∷ 5 ∷ 1 ∷ 7 ∷ 0 ∷ 0 ∷ 2 ∷ 4 ∷ 1 ∷ 8 ∷ 6 ∷ 0 ∷ 0 ∷ []
+  -- "After 1 step: 8 nodes, rows 6 to 1, 7 to 1, 2 to 16, waiting for 0, 1, 1 states."
+  pub P-one-nodes : length (stageAfter 1 P .table) ≡ 8
+  pub P-one-rows : stageAfter 1 P .rows ≡ rowAt 6 1 ∷ rowAt 7 1 ∷ rowAt 2 16 ∷ []
+  pub P-one-waits : map (waitsFor (stageAfter 1 P .table)) (stageAfter 1 P .rows) ≡ 0 ∷ 1 ∷ 1 ∷ []
+  -- "answer 7 of 8 nodes", "answer 5 of 6 nodes", "answer 4 of 5 nodes", "answer 0 of 2 nodes", "answer 0 of 3", "answer 9 of 10 nodes"
+  pub pairs-gives : Gives pairs 7 8
+  pub nested-gives : Gives nested 5 6
+  pub endless-gives : Gives endless 4 5
+  pub rowless-gives : Gives rowless 0 2
+  pub finalless-gives : Gives finalless 0 3
+  pub unused-gives : Gives unused 9 10
+
+pub numbers : Numbers
+unfolding nodeBound wordsOf encode waitsFor size howMany converted stageAfter eliminatedStages eliminatedStage start startTable holesTable rulesTable ruleShape ruleRows finalStates those ascending joinStage joinMade joinMadeFrom altMade catMade iterMade standInMade replacedRows replacedMade loopingNode incomingNode outgoingNode remainsNode completed opensIn opensOf catOpens children childCount labelOf has union without oneSet emptySet setOf
+numbers = record {
+  P-gives = (refl, refl);
+  P-bound = refl;
+  P-words = refl;
+  P-one-nodes = refl;
+  P-one-rows = refl;
+  P-one-waits = refl;
+  pairs-gives = (refl, refl);
+  nested-gives = (refl, refl);
+  endless-gives = (refl, refl);
+  rowless-gives = (refl, refl);
+  finalless-gives = (refl, refl);
+  unused-gives = (refl, refl);
+}
+
+-- ---- which trees they denote
+
+P-valid : Valid P
+P-valid = omega arith
+
+pairs-valid : Valid pairs
+pairs-valid = omega arith
+
+nested-valid : Valid nested
+nested-valid = omega arith
+
+endless-valid : Valid endless
+endless-valid = omega arith
+
+unused-valid : Valid unused
+unused-valid = omega arith
+
+-- the answer denotes the tree
+abbrev pub AnswerDenotes : Held → Tree → Type 0
+AnswerDenotes held t = Denotes (exprAt (converted held .table) (converted held .node)) t
+
+-- the one final state
+only-final : (f q : ℕ) → has (2 ^ f) q ≡ true → q ≡ f
+only-final f q h = eqb-true q f (sym (has-pow f q) ∙ h)
+
+is-final : (f : ℕ) → has (2 ^ f) f ≡ true
+is-final f = has-pow f f ∙ eq-eqb f f refl
+
+module _ (rules : List Rule) where
+  each-none : (ts : Forest) → ReachesEach rules ts [] → ts ≡ []ᶠ
+  each-none []ᶠ x = refl
+  each-none (t ∷ᶠ ts) x = absurd x
+
+  each-one : (ts : Forest) (q : ℕ) → ReachesEach rules ts (q ∷ []) → (t : Tree) × (ts ≡ t ∷ᶠ []ᶠ) × Reaches rules t q
+  each-one []ᶠ q x = absurd x
+  each-one (t ∷ᶠ ts) q x = (t, ap (t ∷ᶠ_) (each-none ts (x .1)), x .0)
+
+  each-two : (ts : Forest) (q p : ℕ) → ReachesEach rules ts (q ∷ p ∷ []) → (t u : Tree) × (ts ≡ t ∷ᶠ u ∷ᶠ []ᶠ) × Reaches rules t q × Reaches rules u p
+  each-two []ᶠ q p x = absurd x
+  each-two (t ∷ᶠ ts) q p x = let c = each-one ts p (x .1) in (t, c .0, ap (t ∷ᶠ_) (c .1), x .0, c .2)
+
+  -- the sources of a known row
+  each-of : (ts : Forest) (r s : Rule) → r ≡ s → ReachesEach rules ts (r .sources) → ReachesEach rules ts (s .sources)
+  each-of ts r s e x = subst (λ (r : Rule). ReachesEach rules ts (r .sources)) e x
+
+-- the trees of the drafts
+abbrev pub leaf : ℕ → Tree
+leaf f = node f []ᶠ
+
+abbrev pub over : ℕ → Tree → Tree
+over f t = node f (t ∷ᶠ []ᶠ)
+
+abbrev pub pair : ℕ → Tree → Tree → Tree
+pair f t u = node f (t ∷ᶠ u ∷ᶠ []ᶠ)
+
+-- "denotes g(a,a), g(a,b), g(b,a), g(b,b) and no other"
+abbrev pub Leaf : Tree → Type 0
+Leaf t = (t ≡ leaf 0) ⊎ (t ≡ leaf 1)
+
+pairs-leaf : (t : Tree) → Reaches (pairs .rules) t 0 → Leaf t
+pairs-leaf (hole p) x = absurd x
+pairs-leaf (node f ts) x = go (x .0) (x .1) (x .2) (x .3) (x .4)
+  where
+    go : (r : Rule) → List·Memᴰ r (pairs .rules) → r .symbol ≡ f → r .target ≡ 0 → ReachesEach (pairs .rules) ts (r .sources) → Leaf (node f ts)
+    go r (List·Memᴰ·head e) i j k = let z = each-none (pairs .rules) ts (each-of (pairs .rules) ts r (rule 0 0 []) e k) in inl (cc)
+    go r (List·Memᴰ·tail (List·Memᴰ·head e)) i j k = let z = each-none (pairs .rules) ts (each-of (pairs .rules) ts r (rule 1 0 []) e k) in inr (cc)
+    go r (List·Memᴰ·tail (List·Memᴰ·tail (List·Memᴰ·head e))) i j k = absurd (let z = ap (λ (r : Rule). r .target) e in omega arith)
+    go r (List·Memᴰ·tail (List·Memᴰ·tail (List·Memᴰ·tail m))) i j k = absurd (List·Memᴰ·not-nil m)
+
+pairs-pair : (t : Tree) → Reaches (pairs .rules) t 1 → (u v : Tree) × (t ≡ pair 2 u v) × Leaf u × Leaf v
+pairs-pair (hole p) x = absurd x
+pairs-pair (node f ts) x = go (x .0) (x .1) (x .2) (x .3) (x .4)
+  where
+    go : (r : Rule) → List·Memᴰ r (pairs .rules) → r .symbol ≡ f → r .target ≡ 1 → ReachesEach (pairs .rules) ts (r .sources) → (u v : Tree) × (node f ts ≡ pair 2 u v) × Leaf u × Leaf v
+    go r (List·Memᴰ·head e) i j k = absurd (let z = ap (λ (r : Rule). r .target) e in omega arith)
+    go r (List·Memᴰ·tail (List·Memᴰ·head e)) i j k = absurd (let z = ap (λ (r : Rule). r .target) e in omega arith)
+    go r (List·Memᴰ·tail (List·Memᴰ·tail (List·Memᴰ·head e))) i j k =
+        let c = each-two (pairs .rules) ts 0 0 (each-of (pairs .rules) ts r (rule 2 1 (0 ∷ 0 ∷ [])) e k) in
+        let z = c .2 in
+        (c .0, c .1, (cc), pairs-leaf (c .0) (c .3), pairs-leaf (c .1) (c .4))
+    go r (List·Memᴰ·tail (List·Memᴰ·tail (List·Memᴰ·tail m))) i j k = absurd (List·Memᴰ·not-nil m)
+
+leaf-pairs : (t : Tree) → Leaf t → Reaches (pairs .rules) t 0
+leaf-pairs t (inl e) = rw e (rule 0 0 [], List·Memᴰ·head refl, refl, refl, tt)
+leaf-pairs t (inr e) = rw e (rule 1 0 [], List·Memᴰ·tail (List·Memᴰ·head refl), refl, refl, tt)
+
+pub pairs-denotes : (t : Tree) → AnswerDenotes pairs t ↔ ((u v : Tree) × (t ≡ pair 2 u v) × Leaf u × Leaf v)
+pairs-denotes t = (λ x. of (wholly-ascending pairs pairs-valid .denotes t .0 x), λ x. wholly-ascending pairs pairs-valid .denotes t .1 (to x))
+  where
+    of : Accepted pairs t → (u v : Tree) × (t ≡ pair 2 u v) × Leaf u × Leaf v
+    of x = pairs-pair t (rw (only-final 1 (x .0) (x .1)) at (x .2))
+
+    to : (u v : Tree) × (t ≡ pair 2 u v) × Leaf u × Leaf v → Accepted pairs t
+    to x =
+        rw (x .2)
+        (1, is-final 1, (rule 2 1 (0 ∷ 0 ∷ []), List·Memᴰ·tail (List·Memᴰ·tail (List·Memᴰ·head refl)), refl, refl, (leaf-pairs (x .0) (x .3), (leaf-pairs (x .1) (x .4), tt))))
+
+-- "denotes g(g(a,a),a)"
+pub nested-denotes : AnswerDenotes nested (pair 1 (pair 1 (leaf 0) (leaf 0)) (leaf 0))
+nested-denotes = wholly-ascending nested nested-valid .denotes (pair 1 (pair 1 (leaf 0) (leaf 0)) (leaf 0)) .1 (0, is-final 0, g (pair 1 (leaf 0) (leaf 0)) (leaf 0) (g (leaf 0) (leaf 0) a a) a)
+  where
+    a : Reaches (nested .rules) (leaf 0) 0
+    a = (rule 0 0 [], List·Memᴰ·head refl, refl, refl, tt)
+
+    g : (t u : Tree) → Reaches (nested .rules) t 0 → Reaches (nested .rules) u 0 → Reaches (nested .rules) (pair 1 t u) 0
+    g t u x y = (rule 1 0 (0 ∷ 0 ∷ []), List·Memᴰ·tail (List·Memᴰ·head refl), refl, refl, (x, (y, tt)))
+
+-- "denotes nothing"
+endless-sources : (ts : Forest) (r : Rule) → List·Memᴰ r (endless .rules) → ReachesEach (endless .rules) ts (r .sources) → ReachesEach (endless .rules) ts (0 ∷ [])
+endless-sources ts r (List·Memᴰ·head e) x = each-of (endless .rules) ts r (rule 0 0 (0 ∷ [])) e x
+endless-sources ts r (List·Memᴰ·tail m) x = absurd (List·Memᴰ·not-nil m)
+
+mutual
+  endless-none : (t : Tree) (q : ℕ) → Reaches (endless .rules) t q → ⊥
+  endless-none (hole p) q x = x
+  endless-none (node f ts) q x = endless-nones ts (endless-sources ts (x .0) (x .1) (x .4))
+
+  endless-nones : (ts : Forest) → ReachesEach (endless .rules) ts (0 ∷ []) → ⊥
+  endless-nones []ᶠ x = x
+  endless-nones (t ∷ᶠ ts) x = endless-none t 0 (x .0)
+
+pub endless-denotes : (t : Tree) → AnswerDenotes endless t → ⊥
+endless-denotes t x = let c = wholly-ascending endless endless-valid .denotes t .0 x in endless-none t (c .0) (c .2)
+
+-- "denotes g(a) alone"
+unused-none : (t : Tree) → Reaches (unused .rules) t 1 → ⊥
+unused-none (hole p) x = x
+unused-none (node f ts) x = go (x .0) (x .1) (x .3)
+  where
+    go : (r : Rule) → List·Memᴰ r (unused .rules) → r .target ≡ 1 → ⊥
+    go r (List·Memᴰ·head e) j = let z = ap (λ (r : Rule). r .target) e in omega arith
+    go r (List·Memᴰ·tail (List·Memᴰ·head e)) j = let z = ap (λ (r : Rule). r .target) e in omega arith
+    go r (List·Memᴰ·tail (List·Memᴰ·tail (List·Memᴰ·head e))) j = let z = ap (λ (r : Rule). r .target) e in omega arith
+    go r (List·Memᴰ·tail (List·Memᴰ·tail (List·Memᴰ·tail m))) j = List·Memᴰ·not-nil m
+
+unused-leaf : (t : Tree) → Reaches (unused .rules) t 0 → t ≡ leaf 0
+unused-leaf (hole p) x = absurd x
+unused-leaf (node f ts) x = go (x .0) (x .1) (x .2) (x .3) (x .4)
+  where
+    go : (r : Rule) → List·Memᴰ r (unused .rules) → r .symbol ≡ f → r .target ≡ 0 → ReachesEach (unused .rules) ts (r .sources) → node f ts ≡ leaf 0
+    go r (List·Memᴰ·head e) i j k = let z = each-none (unused .rules) ts (each-of (unused .rules) ts r (rule 0 0 []) e k) in cc
+    go r (List·Memᴰ·tail (List·Memᴰ·head e)) i j k =
+        let c = each-one (unused .rules) ts 1 (each-of (unused .rules) ts r (rule 1 0 (1 ∷ [])) e k) in
+        absurd (unused-none (c .0) (c .2))
+    go r (List·Memᴰ·tail (List·Memᴰ·tail (List·Memᴰ·head e))) i j k = absurd (let z = ap (λ (r : Rule). r .target) e in omega arith)
+    go r (List·Memᴰ·tail (List·Memᴰ·tail (List·Memᴰ·tail m))) i j k = absurd (List·Memᴰ·not-nil m)
+
+unused-over : (t : Tree) → Reaches (unused .rules) t 2 → t ≡ over 2 (leaf 0)
+unused-over (hole p) x = absurd x
+unused-over (node f ts) x = go (x .0) (x .1) (x .2) (x .3) (x .4)
+  where
+    go : (r : Rule) → List·Memᴰ r (unused .rules) → r .symbol ≡ f → r .target ≡ 2 → ReachesEach (unused .rules) ts (r .sources) → node f ts ≡ over 2 (leaf 0)
+    go r (List·Memᴰ·head e) i j k = absurd (let z = ap (λ (r : Rule). r .target) e in omega arith)
+    go r (List·Memᴰ·tail (List·Memᴰ·head e)) i j k = absurd (let z = ap (λ (r : Rule). r .target) e in omega arith)
+    go r (List·Memᴰ·tail (List·Memᴰ·tail (List·Memᴰ·head e))) i j k =
+        let c = each-one (unused .rules) ts 0 (each-of (unused .rules) ts r (rule 2 2 (0 ∷ [])) e k) in
+        let z = c .1 in
+        let z′ = unused-leaf (c .0) (c .2) in
+        cc
+    go r (List·Memᴰ·tail (List·Memᴰ·tail (List·Memᴰ·tail m))) i j k = absurd (List·Memᴰ·not-nil m)
+
+pub unused-denotes : (t : Tree) → AnswerDenotes unused t ↔ (t ≡ over 2 (leaf 0))
+unused-denotes t = (λ x. of (wholly-ascending unused unused-valid .denotes t .0 x), λ e. wholly-ascending unused unused-valid .denotes t .1 (rw e to))
+  where
+    of : Accepted unused t → t ≡ over 2 (leaf 0)
+    of x = unused-over t (rw (only-final 2 (x .0) (x .1)) at (x .2))
+
+    to : Accepted unused (over 2 (leaf 0))
+    to = (
+      2,
+      is-final 2,
+      (rule 2 2 (0 ∷ []), List·Memᴰ·tail (List·Memᴰ·tail (List·Memᴰ·head refl)), refl, refl, ((rule 0 0 [], List·Memᴰ·head refl, refl, refl, tt), tt)),
+    )

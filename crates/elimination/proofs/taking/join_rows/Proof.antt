@@ -1,0 +1,103 @@
+use Rattle.elimination.proofs.JoinLoop.{JoinLoop, loop-start, loop-ready, loop-node, loop-length, loop-end, loop-row, loop-skip, loop-take, loop-full, picked-is}
+use Prim.Native.Nat.{_-_}
+use mathlib.Core.Path.{_∙_}
+use mathlib.Core.Bool.{true, false}
+use native.Mathlib.Omega.{arith}
+use Rattle.expressions.specs.Words.{tableOf}
+use Rattle.elimination.specs.Inside.{picks}
+use Rattle.elimination.proofs.RowList.{rows-few}
+use Rattle.elimination.proofs.taking.join_rows.Statement.{statement}
+use Rattle.elimination.proofs.taking.join_rows.Tie as tie
+
+abbrev Inv-loop : tie.InvT-loop
+Inv-loop words₀ count q looping list got₀ i₀ words got i = JoinLoop (picks q looping (tableOf words₀ count)) words₀ count list words got i
+
+abbrev μ-loop : tie.MeasureT-loop
+μ-loop words₀ count q looping list got₀ i₀ words got i = list .count - i
+
+loop-holds : tie.Need-loop-holds Inv-loop μ-loop
+loop-holds c = let a = c .before .args in loop-start (picks (a .q) (a .looping) (tableOf (a .words .now) (a .count))) (a .words .now) (a .count) (a .t3) (c .before .pre .1 .0) (c .before .pre .0) (c .before .pre .1 .1 .0)
+
+mul-row : tie.Need-mul-row Inv-loop μ-loop
+mul-row c = omega (arith, rows-few (c .before .before .before .pre .1 .0))
+
+element-copy-out-row : tie.Need-element-copy-out-row Inv-loop μ-loop
+element-copy-out-row c = omega (arith, rows-few (c .before .before .before .pre .1 .0))
+
+add-i : tie.Need-add-i Inv-loop μ-loop
+add-i c = omega (arith, rows-few (c .before .before .before .before .pre .1 .0))
+
+picked-requires : tie.Need-picked-requires Inv-loop μ-loop
+picked-requires c κs = let a = c .before .before .before .before .before .args in
+    let l = c .before .before .before .loop in
+    let r = loop-ready (picks (a .q) (a .looping) (tableOf (a .words .now) (a .count))) (a .words .now) (a .count) (a .t3) (c .before .before .before .before .before .pre .1 .0) (l .words) (l .got) (l .i) (l .inv) in
+    let h = loop-row (picks (a .q) (a .looping) (tableOf (a .words .now) (a .count))) (a .words .now) (a .count) (a .t3) (c .before .before .before .before .before .pre .1 .0) (l .words) (l .got) (l .i) (l .inv) (c .before .before .loop-test .taken) in
+    (omega arith, c .before .before .before .before .before .pre .1 .1 .1)
+
+wide-requires : tie.Need-wide-requires Inv-loop μ-loop
+wide-requires c κs = tt
+
+make-alt-requires : tie.Need-make-alt-requires Inv-loop μ-loop
+make-alt-requires c κs = let a = c .before .before .before .before .before .before .before .before .before .args in
+    let l = c .before .before .before .before .before .before .before .loop in
+    let w = c .wide .ensures in
+    let h = loop-row (picks (a .q) (a .looping) (tableOf (a .words .now) (a .count))) (a .words .now) (a .count) (a .t3) (c .before .before .before .before .before .before .before .before .before .pre .1 .0) (l .words) (l .got) (l .i) (l .inv) (c .before .before .before .before .before .before .loop-test .taken) in
+    (loop-ready (picks (a .q) (a .looping) (tableOf (a .words .now) (a .count))) (a .words .now) (a .count) (a .t3) (c .before .before .before .before .before .before .before .before .before .pre .1 .0) (l .words) (l .got) (l .i) (l .inv), (loop-node (picks (a .q) (a .looping) (tableOf (a .words .now) (a .count))) (a .words .now) (a .count) (a .t3) (c .before .before .before .before .before .before .before .before .before .pre .1 .0) (l .words) (l .got) (l .i) (l .inv), omega arith))
+
+same-length : tie.Need-same-length Inv-loop μ-loop
+same-length c = let a = c .before .before .before .before .before .before .before .before .before .before .before .before .before .args in
+    let l = c .before .before .before .before .before .before .before .before .before .before .before .loop in
+    c .before .before .before .make-alt .kept .0 ∙ loop-length (picks (a .q) (a .looping) (tableOf (a .words .now) (a .count))) (a .words .now) (a .count) (a .t3) (c .before .before .before .before .before .before .before .before .before .before .before .before .before .pre .1 .0) (l .words) (l .got) (l .i) (l .inv)
+
+returns : tie.Need-returns Inv-loop μ-loop
+returns c = let a = c .before .before .before .before .before .before .before .before .before .before .before .before .before .args in
+    let l = c .before .before .before .before .before .before .before .before .before .before .before .loop in
+    loop-full (picks (a .q) (a .looping) (tableOf (a .words .now) (a .count))) (a .words .now) (a .count) (a .t3) (c .before .before .before .before .before .before .before .before .before .before .before .before .before .pre .1 .0) (l .words) (l .got) (l .i) (l .inv) (c .before .before .before .before .before .before .before .before .before .before .loop-test .taken) (picked-is (a .q) (a .looping) (a .words .now) (a .count) (a .t3) (c .before .before .before .before .before .before .before .before .before .before .before .before .before .pre .1 .0) (l .words) (l .got) (l .i) (l .inv) (c .before .before .before .before .before .before .before .before .before .before .loop-test .taken) (c .before .before .before .before .before .before .before .picked .result) true (c .before .before .before .before .before .before .before .picked .ensures) (c .before .before .before .before .before .before .if1 .taken)) (c .before .before .before .make-alt .last .0) (c .before .before .before .make-alt .result) (rw (c .before .before .before .before .wide .ensures) at (c .before .before .before .make-alt .ensures)) (c .if2 .taken)
+
+loop-less : tie.Need-loop-less Inv-loop μ-loop
+loop-less c = omega arith
+
+loop-again : tie.Need-loop-again Inv-loop μ-loop
+loop-again c = let a = c .before .before .before .before .before .before .before .before .before .before .before .before .before .args in
+    let l = c .before .before .before .before .before .before .before .before .before .before .before .loop in
+    loop-take (picks (a .q) (a .looping) (tableOf (a .words .now) (a .count))) (a .words .now) (a .count) (a .t3) (c .before .before .before .before .before .before .before .before .before .before .before .before .before .pre .1 .0) (l .words) (l .got) (l .i) (l .inv) (c .before .before .before .before .before .before .before .before .before .before .loop-test .taken) (picked-is (a .q) (a .looping) (a .words .now) (a .count) (a .t3) (c .before .before .before .before .before .before .before .before .before .before .before .before .before .pre .1 .0) (l .words) (l .got) (l .i) (l .inv) (c .before .before .before .before .before .before .before .before .before .before .loop-test .taken) (c .before .before .before .before .before .before .before .picked .result) true (c .before .before .before .before .before .before .before .picked .ensures) (c .before .before .before .before .before .before .if1 .taken)) (c .before .before .before .make-alt .last .0) (c .before .before .before .make-alt .result) (rw (c .before .before .before .before .wide .ensures) at (c .before .before .before .make-alt .ensures)) (c .if2 .left)
+
+loop-less-2 : tie.Need-loop-less-2 Inv-loop μ-loop
+loop-less-2 c = omega arith
+
+loop-again-2 : tie.Need-loop-again-2 Inv-loop μ-loop
+loop-again-2 c = let a = c .before .before .before .before .before .before .before .args in
+    let l = c .before .before .before .before .before .loop in
+    loop-skip (picks (a .q) (a .looping) (tableOf (a .words .now) (a .count))) (a .words .now) (a .count) (a .t3) (c .before .before .before .before .before .before .before .pre .1 .0) (l .words) (l .got) (l .i) (l .inv) (c .before .before .before .before .loop-test .taken) (picked-is (a .q) (a .looping) (a .words .now) (a .count) (a .t3) (c .before .before .before .before .before .before .before .pre .1 .0) (l .words) (l .got) (l .i) (l .inv) (c .before .before .before .before .loop-test .taken) (c .before .picked .result) false (c .before .picked .ensures) (c .if1 .left))
+
+same-length-2 : tie.Need-same-length-2 Inv-loop μ-loop
+same-length-2 c = let a = c .before .before .before .args in
+    let l = c .before .loop in
+    loop-length (picks (a .q) (a .looping) (tableOf (a .words .now) (a .count))) (a .words .now) (a .count) (a .t3) (c .before .before .before .pre .1 .0) (l .words) (l .got) (l .i) (l .inv)
+
+returns-2 : tie.Need-returns-2 Inv-loop μ-loop
+returns-2 c = let a = c .before .before .before .args in
+    let l = c .before .loop in
+    loop-end (picks (a .q) (a .looping) (tableOf (a .words .now) (a .count))) (a .words .now) (a .count) (a .t3) (c .before .before .before .pre .1 .0) (l .words) (l .got) (l .i) (l .inv) (c .loop-test .left)
+
+pub join-rows-spec : {M : Type 1} → statement M
+join-rows-spec =
+    tie.close
+    (tie.spec
+    Inv-loop
+    μ-loop
+    loop-holds
+    mul-row
+    element-copy-out-row
+    add-i
+    picked-requires
+    wide-requires
+    make-alt-requires
+    same-length
+    returns
+    loop-less
+    loop-again
+    loop-less-2
+    loop-again-2
+    same-length-2
+    returns-2)
