@@ -13,11 +13,13 @@ ghost use Rattle.automaton.specs.Answers.{unusedRow, noAutomaton, readAn
 ghost use Rattle.automaton.specs.Inside.{FileSized};
 
 // A refusal's number, by document 01's table; 0 is done.
+#[repr(C)]
 pub struct Refusal {
     pub number: u8,
 }
 
 // A row: symbol, target state, and the source states from the left; places past the symbol's arity are not used.
+#[repr(C)]
 pub struct Row {
     pub symbol: u8,
     pub target: u8,
@@ -25,6 +27,7 @@ pub struct Row {
 }
 
 // The automaton. Places of `arities` past `symbols`, and places of `rows` past `count`, are not used.
+#[repr(C)]
 pub struct Automaton {
     pub states: u8,
     pub finals: StateSet,
@@ -35,12 +38,14 @@ pub struct Automaton {
 }
 
 // What `read` answers: on a refusal every number of the automaton is 0.
+#[repr(C)]
 pub struct Reading {
     pub refusal: Refusal,
     pub automaton: Automaton,
 }
 
 // What `write` answers: the file's length, 0 on a refusal.
+#[repr(C)]
 pub struct Writing {
     pub refusal: Refusal,
     pub length: usize,

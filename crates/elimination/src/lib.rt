@@ -10,6 +10,7 @@ mod report;
 mod taking;
 
 // A row of a partial conversion's list: its node, its target, and how many different states it still waits for.
+#[repr(C)]
 pub struct ListRow {
     pub node: u16,
     pub target: u8,
@@ -17,6 +18,7 @@ pub struct ListRow {
 }
 
 // What `convert_partly` answers: the number of nodes, the number of rows, and the list; places past the rows are 0.
+#[repr(C)]
 pub struct Partly {
     pub refusal: Refusal,
     pub nodes: usize,
@@ -25,6 +27,7 @@ pub struct Partly {
 }
 
 // What `convert` answers: the number of nodes, and the answer's node.
+#[repr(C)]
 pub struct Wholly {
     pub refusal: Refusal,
     pub nodes: usize,

@@ -15,12 +15,14 @@ pub const NODE_WIDTH: usize = 6;
 pub const MOST_NODES: usize = 4096;
 
 // What `measure` answers: the written-out size of the answer's expression, 0 on a refusal.
+#[repr(C)]
 pub struct Measured {
     pub refusal: Refusal,
     pub size: u32,
 }
 
 // What `list` answers: the listing's length, 0 on a refusal.
+#[repr(C)]
 pub struct Listed {
     pub refusal: Refusal,
     pub length: usize,

@@ -2,6 +2,7 @@
 ghost use mathlib.Core.Path.{_≡_};
 ghost use Rattle.sets.specs.Members.{has, emptySet, oneSet, union, without, size, stateWidth};
 
+#[repr(C)]
 pub struct StateSet(pub u16);
 
 impl StateSet {

@@ -9,6 +9,7 @@ mod rounds;
 mod scan;
 
 // What `run` answers: the reached states, and whether a final state is among them. On a refusal the set is empty.
+#[repr(C)]
 pub struct ReachedStates {
     pub refusal: Refusal,
     pub states: StateSet,
@@ -16,6 +17,7 @@ pub struct ReachedStates {
 }
 
 // What `productive` answers. On a refusal the set is empty.
+#[repr(C)]
 pub struct ProductiveStates {
     pub refusal: Refusal,
     pub states: StateSet,
