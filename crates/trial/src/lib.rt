@@ -7,6 +7,7 @@ use elimination::Partly;
 use elimination::Wholly;
 use expressions::Listed;
 use expressions::Measured;
+use front::Printing;
 use sets::StateSet;
 use trees::ProductiveStates;
 use trees::ReachedStates;
@@ -18,6 +19,7 @@ ghost use Rattle.expressions.specs.Nodes.{shapeOf};
 ghost use Rattle.expressions.specs.Making.{Makes};
 ghost use Rattle.expressions.specs.Answers.{SoundAnswer, Measures, Lists};
 ghost use Rattle.elimination.specs.Answers.{PartlyAnswered, WhollyAnswered};
+ghost use Rattle.front.specs.Answers.{Prints};
 
 #[no_mangle]
 pub extern "C" fn trial_set_empty() -> StateSet
@@ -142,4 +144,11 @@ pub extern "C" fn trial_convert(file: &[u8], nodes: &mut [u32]) -> Wholly
     ensures { λ r. ⌜ WhollyAnswered (now (file .entry)) (now (nodes .entry)) (now (nodes .exit)) r ⌝ }
 {
     elimination::convert(file, nodes)
+}
+
+#[no_mangle]
+pub extern "C" fn trial_printed(file: &[u8], nodes: &mut [u32], out: &mut [u8]) -> Printing
+    ensures { λ r. ⌜ Prints (now (file .entry)) (now (nodes .entry)) (now (nodes .exit)) (now (out .entry)) (now (out .exit)) r ⌝ }
+{
+    front::printed(file, nodes, out)
 }

@@ -1,0 +1,11 @@
+-- Document 01, "Measuring and listing": "A program reads at most 4,096 bytes of a file from standard input, converts it and prints the listing, or "refused N"."
+use Prim.Native.Nat.{ℕ, _≤_}
+use mathlib.Core.Path.{_≡_}
+use mathlib.Core.List.{List}
+use lib.ListN.{length, take}
+use Rattle.front.specs.Text.{printedText}
+
+-- the first so many of the bytes are what is to be printed for the file: whatever the file, the listing or "refused N", for the program has room for both
+pub record Ready (file bytes : List ℕ) (count : ℕ) : Type 0 where
+  pub exact : take count bytes ≡ printedText file
+  pub within : count ≤ length bytes

@@ -1,0 +1,5 @@
+pub mod Faults
+pub mod Refused
+pub mod Outcomes
+pub mod Room
+pub mod Cap
