@@ -1,0 +1,178 @@
+-- The promises of the conversions are kept: by the refusals, and by the table that the definitions give.
+use Prim.Native.Nat.{ℕ, _*_, _≤_, _<_}
+use native.Mathlib.Omega.{arith}
+use native.Mathlib.Decide.{decLt}
+use mathlib.Core.Path.{_≡_, refl, sym, _∙_, ap, ap₂, subst}
+use mathlib.Core.List.{List, [], _∷_, map}
+use lib.ListN.{length, drop, length-map, length-replicate}
+use Rattle.automaton.specs.Held.{Held}
+use Rattle.automaton.specs.Checks.{Verdict, verdict, holds, fault}
+use Rattle.automaton.proofs.Pair.{verdict-valid}
+use Rattle.automaton.proofs.Places.{filled-take}
+use Rattle.expressions.specs.Nodes.{Table}
+use Rattle.expressions.specs.Words.{nodeWidth, wordsOf}
+use Rattle.expressions.proofs.Words.{length-words, table-words}
+use Rattle.elimination.specs.declared.Partly.{Partly}
+use Rattle.elimination.specs.declared.Wholly.{Wholly}
+use Rattle.elimination.specs.Stages.{NodeRow, Stage, Made, stageAfter, converted}
+use Rattle.elimination.specs.Answers.{wholeNodes, writtenTo, allZero, listPlaces, unusedPlace, listRow, listOfRows, refusedPartly, partlyDone, rowOfPlace, stageAnswered, PartlyAnswered, refusedWhole, whollyDone, madeAnswered, WhollyAnswered}
+use Rattle.elimination.specs.Theorem.{PartlyConverted, WhollyConverted}
+use Rattle.elimination.proofs.Theorem.{partly-ascending, wholly-ascending}
+use Rattle.claims.specs.Kept.{KeptBoth}
+use Rattle.claims.proofs.KeptTables.{over-front}
+
+-- a file that holds an automaton has no fault, and holds one thing
+never-both : (file : List ℕ) (held : Held) (number offset : ℕ) → verdict file ≡ holds held → verdict file ≡ fault number offset → ⊥
+never-both file held number offset d e = let z : _≡_ {A = ℕ} 0 1 = cc in omega arith
+
+one-held : (file : List ℕ) (held other : Held) → verdict file ≡ holds held → verdict file ≡ holds other → held ≡ other
+one-held file held other d e = cc
+
+one-number : (file : List ℕ) (number offset other place : ℕ) → verdict file ≡ fault number offset → verdict file ≡ fault other place → number ≡ other
+one-number file number offset other place d e = cc
+
+-- the words are as many as they were
+written-length : (before : List ℕ) (table : Table) → length table ≤ wholeNodes before → length (writtenTo before table) ≡ length before
+unfolding writtenTo wholeNodes
+written-length before table h = over-front (wordsOf table) before (nodeWidth * length table) (length-words table) (omega arith)
+
+zero-length : (before : List ℕ) → length (allZero before) ≡ length before
+unfolding allZero
+zero-length before = length-replicate (length before) 0
+
+-- what stands in the words and in the answer is what was made
+rows-back : (table : Table) (rows : List NodeRow) → map rowOfPlace (map (listRow table) rows) ≡ rows
+unfolding listRow
+rows-back table [] = refl
+rows-back table (row ∷ rows) = ap (row ∷_) (rows-back table rows)
+
+stage-back : (before : List ℕ) (stage : Stage) → stageAnswered (writtenTo before (stage .table)) (partlyDone stage) ≡ stage
+unfolding writtenTo stageAnswered partlyDone listOfRows
+stage-back before stage =
+    ap₂ (λ (t : Table) (rows : List NodeRow). record { table = t; rows = rows }) (table-words (stage .table) (drop (nodeWidth * length (stage .table)) before))
+    (ap (map rowOfPlace) (filled-take listPlaces unusedPlace (map (listRow (stage .table)) (stage .rows)) (length (stage .rows)) (sym (length-map (stage .rows) (listRow (stage .table)))))
+    ∙ rows-back (stage .table) (stage .rows))
+
+made-back : (before : List ℕ) (made : Made) → madeAnswered (writtenTo before (made .table)) (whollyDone made) ≡ made
+unfolding writtenTo madeAnswered whollyDone
+made-back before made = ap (λ (t : Table). record { table = t; node = made .node }) (table-words (made .table) (drop (nodeWidth * length (made .table)) before))
+
+-- what holds of the automaton that the file holds, holds of every one that it is said to hold
+module _ (file : List ℕ) (held : Held) (e : verdict file ≡ holds held) where
+  of-held : (P : Held → Type 0) → P held → (other : Held) → verdict file ≡ holds other → P other
+  of-held P p other d = subst P (one-held file held other e d) p
+
+-- ---- a partial conversion
+
+module _ (file : List ℕ) (k : ℕ) (before : List ℕ) where
+  part-faulty : (number offset : ℕ) → verdict file ≡ fault number offset → PartlyAnswered file k before before (refusedPartly number)
+  part-faulty number offset e =
+      record {
+        faulty = λ n o d. (ap refusedPartly (one-number file number offset n o e d), refl);
+        too-far = λ held d h. absurd (never-both file held number offset d e);
+        short = λ held d h l. absurd (never-both file held number offset d e);
+        done = λ held d h l. absurd (never-both file held number offset d e);
+        means = λ held d h l. absurd (never-both file held number offset d e);
+      }
+
+  module _ (held : Held) (e : verdict file ≡ holds held) (after : List ℕ) (r : Partly) where
+    part-answered : (held .states < k → (r ≡ refusedPartly 9) × (after ≡ before))
+        → (k ≤ held .states → wholeNodes before < length (stageAfter k held .table) → (r ≡ refusedPartly 6) × (after ≡ allZero before))
+        → (k ≤ held .states → length (stageAfter k held .table) ≤ wholeNodes before → (r ≡ partlyDone (stageAfter k held)) × (after ≡ writtenTo before (stageAfter k held .table)))
+        → PartlyAnswered file k before after r
+    part-answered far short done =
+        record {
+          faulty = λ n o d. absurd (never-both file held n o e d);
+          too-far = of-held file held e (λ h. h .states < k → (r ≡ refusedPartly 9) × (after ≡ before)) far;
+          short = of-held file held e (λ h. k ≤ h .states → wholeNodes before < length (stageAfter k h .table) → (r ≡ refusedPartly 6) × (after ≡ allZero before)) short;
+          done = of-held file held e
+              (λ h. k ≤ h .states → length (stageAfter k h .table) ≤ wholeNodes before → (r ≡ partlyDone (stageAfter k h)) × (after ≡ writtenTo before (stageAfter k h .table))) done;
+          means = of-held file held e (λ h. k ≤ h .states → length (stageAfter k h .table) ≤ wholeNodes before → PartlyConverted h (λ q. q < k) (stageAnswered after r)) means;
+        }
+      where
+        means : k ≤ held .states → length (stageAfter k held .table) ≤ wholeNodes before → PartlyConverted held (λ q. q < k) (stageAnswered after r)
+        means near l =
+            let d = done near l in
+            subst (PartlyConverted held (λ q. q < k)) (sym (ap₂ stageAnswered (d .1) (d .0) ∙ stage-back before (stageAfter k held)))
+            (partly-ascending held (verdict-valid file held e) k near)
+
+  pub partly-kept : KeptBoth {A = Partly} before (λ after r. PartlyAnswered file k before after r)
+  partly-kept = go (verdict file) refl
+    where
+      room : (held : Held) → verdict file ≡ holds held → k ≤ held .states → Dec (wholeNodes before < length (stageAfter k held .table))
+          → KeptBoth {A = Partly} before (λ after r. PartlyAnswered file k before after r)
+      room held e near (yes l) = (
+        allZero before,
+        refusedPartly 6,
+        part-answered held e (allZero before) (refusedPartly 6) (λ far. absurd (omega arith)) (λ _ _. (refl, refl)) (λ _ m. absurd (omega arith)),
+        zero-length before,
+      )
+      room held e near (no l) = (
+        writtenTo before (stageAfter k held .table),
+        partlyDone (stageAfter k held),
+        part-answered held e (writtenTo before (stageAfter k held .table)) (partlyDone (stageAfter k held)) (λ far. absurd (omega arith)) (λ _ m. absurd (l m)) (λ _ _. (refl, refl)),
+        written-length before (stageAfter k held .table) (omega arith),
+      )
+
+      far : (held : Held) → verdict file ≡ holds held → Dec (held .states < k) → KeptBoth {A = Partly} before (λ after r. PartlyAnswered file k before after r)
+      far held e (yes l) = (
+        before,
+        refusedPartly 9,
+        part-answered held e before (refusedPartly 9) (λ _. (refl, refl)) (λ near m. absurd (omega arith)) (λ near m. absurd (omega arith)),
+        refl,
+      )
+      far held e (no l) = room held e (omega arith) (decLt (wholeNodes before) (length (stageAfter k held .table)))
+
+      go : (v : Verdict) → verdict file ≡ v → KeptBoth {A = Partly} before (λ after r. PartlyAnswered file k before after r)
+      go (holds held) e = far held e (decLt (held .states) k)
+      go (fault number offset) e = (before, refusedPartly number, part-faulty number offset e, refl)
+
+-- ---- a full conversion
+
+module _ (file before : List ℕ) where
+  whole-faulty : (number offset : ℕ) → verdict file ≡ fault number offset → WhollyAnswered file before before (refusedWhole number)
+  whole-faulty number offset e =
+      record {
+        faulty = λ n o d. (ap refusedWhole (one-number file number offset n o e d), refl);
+        short = λ held d l. absurd (never-both file held number offset d e);
+        done = λ held d l. absurd (never-both file held number offset d e);
+        means = λ held d l. absurd (never-both file held number offset d e);
+      }
+
+  module _ (held : Held) (e : verdict file ≡ holds held) (after : List ℕ) (r : Wholly) where
+    whole-answered : (wholeNodes before < length (converted held .table) → (r ≡ refusedWhole 6) × (after ≡ allZero before))
+        → (length (converted held .table) ≤ wholeNodes before → (r ≡ whollyDone (converted held)) × (after ≡ writtenTo before (converted held .table)))
+        → WhollyAnswered file before after r
+    whole-answered short done =
+        record {
+          faulty = λ n o d. absurd (never-both file held n o e d);
+          short = of-held file held e (λ h. wholeNodes before < length (converted h .table) → (r ≡ refusedWhole 6) × (after ≡ allZero before)) short;
+          done = of-held file held e (λ h. length (converted h .table) ≤ wholeNodes before → (r ≡ whollyDone (converted h)) × (after ≡ writtenTo before (converted h .table))) done;
+          means = of-held file held e (λ h. length (converted h .table) ≤ wholeNodes before → WhollyConverted h (madeAnswered after r)) means;
+        }
+      where
+        means : length (converted held .table) ≤ wholeNodes before → WhollyConverted held (madeAnswered after r)
+        means l =
+            let d = done l in
+            subst (WhollyConverted held) (sym (ap₂ madeAnswered (d .1) (d .0) ∙ made-back before (converted held))) (wholly-ascending held (verdict-valid file held e))
+
+  pub wholly-kept : KeptBoth {A = Wholly} before (λ after r. WhollyAnswered file before after r)
+  wholly-kept = go (verdict file) refl
+    where
+      room : (held : Held) → verdict file ≡ holds held → Dec (wholeNodes before < length (converted held .table)) → KeptBoth {A = Wholly} before (λ after r. WhollyAnswered file before after r)
+      room held e (yes l) = (
+        allZero before,
+        refusedWhole 6,
+        whole-answered held e (allZero before) (refusedWhole 6) (λ _. (refl, refl)) (λ m. absurd (omega arith)),
+        zero-length before,
+      )
+      room held e (no l) = (
+        writtenTo before (converted held .table),
+        whollyDone (converted held),
+        whole-answered held e (writtenTo before (converted held .table)) (whollyDone (converted held)) (λ m. absurd (l m)) (λ _. (refl, refl)),
+        written-length before (converted held .table) (omega arith),
+      )
+
+      go : (v : Verdict) → verdict file ≡ v → KeptBoth {A = Wholly} before (λ after r. WhollyAnswered file before after r)
+      go (holds held) e = room held e (decLt (wholeNodes before) (length (converted held .table)))
+      go (fault number offset) e = (before, refusedWhole number, whole-faulty number offset e, refl)

@@ -1,0 +1,12 @@
+pub mod Refusals
+pub mod Meanings
+pub mod Slips
+pub mod Conversions
+pub mod Uniqueness
+pub mod Kept
+pub mod DraftFiles
+pub mod WorkedDrafts
+pub mod Shams
+pub mod ComputedFiles
+pub mod Computed
+pub mod Claims
