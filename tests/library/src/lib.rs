@@ -51,7 +51,7 @@ mod doors {
         pub refusal: Refusal,
         pub size: u32,
     }
-    /// `Writing`, `Listed` and `Printed` have one layout.
+    /// `Writing`, `Listed` and `Printing` have one layout.
     #[repr(C)]
     pub struct Length {
         pub refusal: Refusal,
