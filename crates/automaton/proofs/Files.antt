@@ -1,19 +1,19 @@
 -- The file of a valid automaton reads as that automaton, and is at most 747 bytes long.
 use Prim.Native.Nat.{ℕ, zero, suc, _+_, _*_, _^_, _≤_, _<_}
-use mathlib.Core.Bool.{Bool, true, false, not, _||_}
+use mathlib.Core.Bool.{true, not}
 use mathlib.Core.Path.{_≡_, refl, sym, ap, _∙_}
 use mathlib.Core.List.{List, [], _∷_, _++_, append-assoc, append-nil}
 use native.Mathlib.Nat.{lt-of-lt-of-le}
 use native.Mathlib.Omega.{arith}
-use lib.Dec.{leb, ltb, eqb, lit<}
+use lib.Dec.{lit<}
 use lib.Pow.{pow-mono}
 use lib.ListN.{length, getD, drop, length-append}
-use borrow.Author.Tests.{lt-ltb, le-ltb, le-leb, lt-leb, eq-eqb}
+use borrow.Author.Tests.{le-ltb, le-leb, lt-leb, eq-eqb}
 use Rattle.automaton.specs.Held.{Rule, Held, All, ValidRule, Valid}
 use Rattle.automaton.specs.File.{twoBytes, fileRecord, headRecord, symbolRecord, rowRecord, endRecord, each, fileOf}
-use Rattle.automaton.specs.Checks.{Verdict, holds, SoFar, nothing, given, Found, more, end, numberAt, isNone, kindAllowed, lengthAllowed, headValues, symbolValues, allBelow, rowValues, values, recordFound, follow, verdictFrom, verdict}
+use Rattle.automaton.specs.Checks.{holds, SoFar, nothing, given, Found, more, end, numberAt, isNone, kindAllowed, lengthAllowed, headValues, symbolValues, rowValues, values, recordFound, follow, verdictFrom, verdict}
 use Rattle.automaton.proofs.Frames.{length-row}
-use Rattle.automaton.proofs.Records.{number-of, record-size, record-rest, record-length, record-read}
+use Rattle.automaton.proofs.Records.{number-of, record-rest, record-length, record-read}
 use Rattle.automaton.proofs.Inverse.{all-below}
 
 -- ---- one record of the file

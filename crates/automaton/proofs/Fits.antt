@@ -1,6 +1,6 @@
 -- Which values a file can hold: the loops that test arities, sources and rows.
 use Prim.Native.Nat.{ℕ, zero, suc, _+_, _*_, _≤_, _<_}
-use mathlib.Core.Bool.{Bool, true, false, false≢true, true≢false}
+use mathlib.Core.Bool.{true, false, false≢true}
 use mathlib.Core.Path.{_≡_, refl, sym, ap, _∙_}
 use mathlib.Core.List.{List, [], _∷_, _++_, map}
 use native.Mathlib.Nat.{le-antisymm}
@@ -12,9 +12,9 @@ use Rattle.automaton.specs.Held.{Rule, All, ValidRule}
 use Rattle.automaton.specs.File.{fileRecord, rowRecord, each}
 use Rattle.automaton.specs.Checks.{allBelow}
 use Rattle.automaton.specs.Answers.{ruleHeld}
-use Rattle.automaton.specs.Inside.{Decides, RowSized, RowsFit}
+use Rattle.automaton.specs.Inside.{RowSized, RowsFit}
 use Rattle.automaton.specs.declared.Row.{Row}
-use Rattle.automaton.specs.declared.writer.Fitted.{Fitted}
+use Rattle.automaton.proofs.Deciding.{decides-yes, decides-no}
 use Rattle.automaton.proofs.Places.{firsts-take}
 use Rattle.automaton.proofs.Files.{all-get}
 use Rattle.automaton.proofs.Records.{record-length}
@@ -22,13 +22,6 @@ use Rattle.automaton.proofs.RowLoop.{map-snoc}
 use Rattle.automaton.proofs.Inverse.{below-all, all-below}
 use Rattle.automaton.proofs.Sources.{below-snoc, below-fails}
 use Rattle.automaton.proofs.Stores.{take-next, each-snoc}
-
--- an answer to a question
-pub so : {P : Type 0} → P → Decides P true
-so p = record { yes-so = λ _. p; not-so = λ e. absurd (true≢false e) }
-
-pub not-so : {P : Type 0} → (P → ⊥) → Decides P false
-not-so n = record { yes-so = λ e. absurd (false≢true e); not-so = λ _. n }
 
 -- ---- each of the first elements
 
@@ -151,7 +144,7 @@ module _ (states symbols : ℕ) (arities : List ℕ) (rows : List Row) (count : 
       pub rows-fit-bad : size ≡ 0 → RowsFit states (take symbols arities) (map (ruleHeld (take symbols arities)) (take count rows)) (record { fine = false; length = 0 })
       rows-fit-bad z =
           record {
-            decided = not-so
+            decided = decides-no
                 (λ a. sized .unfit z
                 (all-at (λ row. ValidRule states (take symbols arities) (ruleHeld (take symbols arities) row)) d rows count i h there
                 (all-mapped (ValidRule states (take symbols arities)) (ruleHeld (take symbols arities)) (take count rows) a)));
@@ -175,4 +168,4 @@ module _ (states symbols : ℕ) (arities : List ℕ) (rows : List Row) (count : 
       → RowsFit states (take symbols arities) (map (ruleHeld (take symbols arities)) (take count rows)) (record { fine = true; length = length′ })
   rows-fit-done length′ i inv few h =
       let e : i ≡ count = le-antisymm (inv .within) h in
-      record { decided = so (rw e at (inv .valid)); counted = λ _. rw e at (inv .counted); small = omega (arith, inv .small) }
+      record { decided = decides-yes (rw e at (inv .valid)); counted = λ _. rw e at (inv .counted); small = omega (arith, inv .small) }

@@ -1,17 +1,15 @@
 -- The frame of a record, case by case, as the reader finds it; and how the definition's checks begin with it.
 use Prim.Native.Nat.{ℕ, _+_, _-_, _≤_, _<_}
-use mathlib.Core.Bool.{Bool, true, false, cond, not, _&&_, _||_}
-use mathlib.Core.Path.{_≡_, refl, sym, ap, ap₂, _∙_}
-use mathlib.Core.List.{List, [], _∷_}
+use mathlib.Core.Bool.{Bool, true, false, cond, not, _&&_, or-false}
+use mathlib.Core.Path.{_≡_, refl, sym, ap, _∙_}
+use mathlib.Core.List.{List}
 use native.Mathlib.Nat.{add-zero, add-assoc}
-use native.Mathlib.Omega.{arith}
 use lib.Dec.{leb, ltb, eqb}
-use lib.ListN.{length, getD, take, drop, length-drop}
+use lib.ListN.{length, drop, length-drop}
 use lib.Seq.{getD-drop}
-use borrow.Author.Tests.{lt-ltb, le-ltb, eq-eqb, ne-eqb}
+use borrow.Author.Tests.{lt-ltb, le-ltb, ne-eqb}
 use Rattle.automaton.specs.Checks.{numberAt, lengthAllowed}
 use Rattle.automaton.specs.Inside.{allowedBy, noFrame, frameOf}
-use Rattle.automaton.specs.declared.reader.Frame.{Frame}
 
 pub number-drop : (bytes : List ℕ) (n i : ℕ) → numberAt (drop n bytes) i ≡ numberAt bytes (n + i)
 unfolding numberAt
@@ -79,21 +77,17 @@ unfolding allowedBy
 allowed-none first symbol rest kind u =
     rw (ne-eqb kind 1 (u .no-head), ne-eqb kind 2 (u .no-symbol), ne-eqb kind 3 (u .no-row), ne-eqb kind 9 (u .no-end))
 
-or-none : (b : Bool) → b ≡ (b || false)
-or-none true = refl
-or-none false = refl
-
 pub length-head : (size : ℕ) → eqb size 3 ≡ lengthAllowed 1 size
 unfolding lengthAllowed
-length-head size = or-none _ ∙ or-none _ ∙ or-none _
+length-head size = sym (or-false _) ∙ sym (or-false _) ∙ sym (or-false _)
 
 pub length-symbol : (size : ℕ) → eqb size 1 ≡ lengthAllowed 2 size
 unfolding lengthAllowed
-length-symbol size = or-none _ ∙ or-none _
+length-symbol size = sym (or-false _) ∙ sym (or-false _)
 
 pub length-row : (size : ℕ) → (leb 2 size && leb size 5) ≡ lengthAllowed 3 size
 unfolding lengthAllowed
-length-row size = or-none _
+length-row size = sym (or-false _)
 
 pub length-end : (size : ℕ) → eqb size 0 ≡ lengthAllowed 9 size
 unfolding lengthAllowed

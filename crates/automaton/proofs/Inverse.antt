@@ -1,16 +1,17 @@
 -- What a good record must have been: from what one record is found to be back to its values and its bytes.
 use Prim.Native.Nat.{ℕ, zero, suc, _+_, _^_, _≤_, _<_}
-use mathlib.Core.Bool.{Bool, true, false, cond, not, _&&_, _||_, false≢true, true≢false}
+use mathlib.Core.Bool.{Bool, true, false, not, _&&_, _||_, false≢true, true≢false}
 use mathlib.Core.Path.{_≡_, refl, sym, ap, ap₂, _∙_}
 use mathlib.Core.List.{List, [], _∷_, _++_, append-nil}
 use native.Mathlib.Omega.{arith}
 use lib.Dec.{leb, ltb, eqb}
 use lib.ListN.{length, getD, take, drop, length-drop}
 use lib.Seq.{length-take-le}
-use borrow.Author.Tests.{ne-eqb, lt-ltb, leb-false, ltb-false, eqb-true, eqb-false, not-false, leb-true, ltb-true}
+use borrow.Author.Tests.{ne-eqb, lt-ltb, leb-false, ltb-false, eqb-true, not-false, ltb-true}
 use Rattle.automaton.specs.Held.{Rule, Held, All, ValidRule}
 use Rattle.automaton.specs.File.{twoBytes, fileRecord, headRecord, symbolRecord, rowRecord, endRecord}
-use Rattle.automaton.specs.Checks.{SoFar, nothing, given, Found, wrong, more, end, wrongIf, numberAt, isNone, kindAllowed, lengthAllowed, headValues, symbolValues, allBelow, rowValues, values, recordFound}
+use Rattle.automaton.specs.Checks.{nothing, given, Found, more, end, wrongIf, numberAt, isNone, kindAllowed, lengthAllowed, headValues, symbolValues, allBelow, rowValues, values, recordFound}
+use Rattle.automaton.proofs.Truth.{and-parts}
 use Rattle.automaton.proofs.Frames.{length-head, length-symbol, length-row, length-end}
 use Rattle.automaton.proofs.Verdicts.{Passed, found-values, more-passed, end-passed}
 use Rattle.automaton.proofs.Records.{Bytes, bytes-drop, record-bytes, two-of}
@@ -175,14 +176,6 @@ or-left : (a : Bool) → (a || false) ≡ true → a ≡ true
 or-left true e = refl
 or-left false e = e
 
-and-left : (a b : Bool) → (a && b) ≡ true → a ≡ true
-and-left true b e = refl
-and-left false b e = e
-
-and-right : (a b : Bool) → (a && b) ≡ true → b ≡ true
-and-right true b e = e
-and-right false b e = absurd (false≢true e)
-
 -- the kinds after the first record
 module _ (held : Held) (kind : ℕ) (allowed : kindAllowed (given held) kind ≡ true) where
   symbol-first : kind ≡ 2 → held .rules ≡ []
@@ -191,7 +184,7 @@ module _ (held : Held) (kind : ℕ) (allowed : kindAllowed (given held) kind ≡
 
   row-some : (kind ≡ 2 → ⊥) → 1 ≤ length (held .arities)
   unfolding kindAllowed
-  row-some n = none-not (held .arities) (and-right (eqb kind 3 || eqb kind 9) (not (isNone (held .arities))) (rw (ne-eqb kind 2 n) at allowed))
+  row-some n = none-not (held .arities) (and-parts (eqb kind 3 || eqb kind 9) (not (isNone (held .arities))) (rw (ne-eqb kind 2 n) at allowed) .1)
 
 module _ (before after : Held) (bytes : List ℕ) (e : recordFound (given before) bytes ≡ more after) where
   passed : Passed (kindAllowed (given before)) bytes
@@ -276,8 +269,8 @@ module _ (before after : Held) (bytes : List ℕ) (e : recordFound (given before
   unfolding kindAllowed
   end-kind =
       eqb-true _ _
-      (and-left (eqb (numberAt bytes 2) 9) (not (isNone (before .arities)))
-      (rw (ne-eqb (numberAt bytes 2) 2 no-symbol, ne-eqb (numberAt bytes 2) 3 no-row) at (ended .kind)))
+      (and-parts (eqb (numberAt bytes 2) 9) (not (isNone (before .arities)))
+      (rw (ne-eqb (numberAt bytes 2) 2 no-symbol, ne-eqb (numberAt bytes 2) 3 no-row) at (ended .kind)) .0)
 
   pub end-good : EndGood before after bytes
   unfolding values endRecord

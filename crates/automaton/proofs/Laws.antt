@@ -1,6 +1,5 @@
 -- The laws of the pair over the promises of `read` and `write`: reading what was written gives the same automaton with unused places 0; a file that reads and is written back is the same bytes; and each promise has one outcome.
-use Prim.Native.Nat.{ℕ, zero, suc, _+_, _-_, _^_, _≤_, _<_}
-use mathlib.Core.Bool.{Bool, true, false, not, _||_}
+use Prim.Native.Nat.{ℕ, _+_, _-_, _^_, _≤_, _<_}
 use mathlib.Core.Path.{_≡_, refl, sym, ap, ap₂, _∙_}
 use mathlib.Core.List.{List, [], _∷_, _++_, map}
 use mathlib.Core.Logic.{_↔_}
@@ -11,12 +10,13 @@ use lib.ListN.{length, getD, take, drop, length-map}
 use lib.Seq.{take-append-seam}
 use Rattle.automaton.specs.Held.{Rule, Held, All, ValidRule, Valid}
 use Rattle.automaton.specs.File.{fileOf}
-use Rattle.automaton.specs.Checks.{Verdict, holds, fault, verdict}
+use Rattle.automaton.specs.Checks.{holds, verdict}
 use Rattle.automaton.specs.Answers.{filled, placedRow, unusedRow, placed, readingOf, readAnswer, firsts, ruleHeld, heldBy, writing, Written}
 use Rattle.automaton.specs.declared.Row.{Row}
 use Rattle.automaton.specs.declared.Automaton.{Automaton}
 use Rattle.automaton.specs.declared.Reading.{Reading}
 use Rattle.automaton.specs.declared.Writing.{Writing}
+use Rattle.automaton.proofs.Deciding.{both, decided-as, dec-all}
 use Rattle.automaton.proofs.Records.{Bytes}
 use Rattle.automaton.proofs.Pair.{verdict-valid, verdict-file}
 use Rattle.automaton.proofs.Files.{file-verdict, all-get}
@@ -56,29 +56,25 @@ held-placed held v =
 
 -- ---- what no file can hold is decided
 
-pair : {A B : Type 0} → Dec A → Dec B → Dec (A × B)
-pair (yes a) (yes b) = yes (a, b)
-pair (yes a) (no n) = no (λ p. n (p .1))
-pair (no n) d = no (λ p. n (p .0))
-
-decided : {A B : Type 0} → (A → B) → (B → A) → Dec A → Dec B
-decided f g (yes a) = yes (f a)
-decided f g (no n) = no (λ b. n (g b))
-
-dec-all : {A : Type 0} (P : A → Type 0) → ((x : A) → Dec (P x)) → (xs : List A) → Dec (All P xs)
-dec-all P d [] = yes tt
-dec-all P d (x ∷ xs) = pair (d x) (dec-all P d xs)
-
 dec-rule : (states : ℕ) (arities : List ℕ) (rule : Rule) → Dec (ValidRule states arities rule)
 dec-rule states arities rule =
-    decided (λ p. record { known = p .0; suited = p .1 .0; aimed = p .1 .1 .0; sourced = p .1 .1 .1 }) (λ v. (v .known, (v .suited, (v .aimed, v .sourced))))
-    (pair (decLt (rule .symbol) (length arities))
-    (pair (ℕ-discrete (length (rule .sources)) (getD arities (rule .symbol) 0))
-    (pair (decLt (rule .target) states) (dec-all (λ q. q < states) (λ q. decLt q states) (rule .sources)))))
+    decided-as
+    (both (decLt (rule .symbol) (length arities))
+    (both (ℕ-discrete (length (rule .sources)) (getD arities (rule .symbol) 0))
+    (both (decLt (rule .target) states) (dec-all (λ q. q < states) (λ q. decLt q states) (rule .sources)))))
+    (λ p. record { known = p .0; suited = p .1 .0; aimed = p .1 .1 .0; sourced = p .1 .1 .1 })
+    (λ v. (v .known, (v .suited, (v .aimed, v .sourced))))
 
 pub dec-valid : (held : Held) → Dec (Valid held)
 dec-valid held =
-    decided
+    decided-as
+    (both (decLe 1 (held .states))
+    (both (decLe (held .states) 16)
+    (both (decLt (held .finals) (2 ^ held .states))
+    (both (decLe 1 (length (held .arities)))
+    (both (decLe (length (held .arities)) 32)
+    (both (dec-all (λ a. a ≤ 3) (λ a. decLe a 3) (held .arities))
+    (both (decLe (length (held .rules)) 64) (dec-all (ValidRule (held .states) (held .arities)) (dec-rule (held .states) (held .arities)) (held .rules)))))))))
     (λ p.
     record {
       some-state = p .0;
@@ -91,13 +87,6 @@ dec-valid held =
       valid-rules = p .1 .1 .1 .1 .1 .1 .1;
     })
     (λ v. (v .some-state, (v .few-states, (v .finals-within, (v .some-symbol, (v .few-symbols, (v .small-arities, (v .few-rules, v .valid-rules))))))))
-    (pair (decLe 1 (held .states))
-    (pair (decLe (held .states) 16)
-    (pair (decLt (held .finals) (2 ^ held .states))
-    (pair (decLe 1 (length (held .arities)))
-    (pair (decLe (length (held .arities)) 32)
-    (pair (dec-all (λ a. a ≤ 3) (λ a. decLe a 3) (held .arities))
-    (pair (decLe (length (held .rules)) 64) (dec-all (ValidRule (held .states) (held .arities)) (dec-rule (held .states) (held .arities)) (held .rules)))))))))
 
 -- ---- over the promises
 
@@ -140,14 +129,15 @@ reads-written bytes before after held answer b e w h =
 pub read-once : (file : List ℕ) (r s : Reading) → r ≡ readAnswer file → s ≡ readAnswer file → r ≡ s
 read-once file r s p q = p ∙ sym q
 
+-- two pairs that are each the same as a third
+pub alike : {A B : Type 0} {a b x : A} {c d y : B} → (a ≡ x) × (c ≡ y) → (b ≡ x) × (d ≡ y) → (a ≡ b) × (c ≡ d)
+alike p q = (p .0 ∙ sym (q .0), p .1 ∙ sym (q .1))
+
 -- what `write` promises has one outcome: the answer and every byte of the buffer
 pub written-once : (value : Automaton) (before after other : List ℕ) (r s : Writing) → Written value before after r → Written value before other s → (r ≡ s) × (after ≡ other)
 written-once value before after other r s w v = go (dec-valid (heldBy value)) (decLe (length (fileOf (heldBy value))) (length before))
   where
-    same : {x : Writing} {y : List ℕ} → (r ≡ x) × (after ≡ y) → (s ≡ x) × (other ≡ y) → (r ≡ s) × (after ≡ other)
-    same p q = (p .0 ∙ sym (q .0), p .1 ∙ sym (q .1))
-
     go : Dec (Valid (heldBy value)) → Dec (length (fileOf (heldBy value)) ≤ length before) → (r ≡ s) × (after ≡ other)
-    go (no n) d = same (w .unfit n) (v .unfit n)
-    go (yes h) (yes l) = same (w .done h l) (v .done h l)
-    go (yes h) (no n) = same (w .short h (lt-of-not-le n)) (v .short h (lt-of-not-le n))
+    go (no n) d = alike (w .unfit n) (v .unfit n)
+    go (yes h) (yes l) = alike (w .done h l) (v .done h l)
+    go (yes h) (no n) = alike (w .short h (lt-of-not-le n)) (v .short h (lt-of-not-le n))

@@ -1,3 +1,5 @@
+pub mod Truth
+pub mod Deciding
 pub mod Frames
 pub mod Verdicts
 pub mod Places
@@ -10,6 +12,8 @@ pub mod RowLoop
 pub mod Whole
 pub mod Records
 pub mod Inverse
+pub mod Faults
+pub mod Cap
 pub mod Pair
 pub mod Files
 pub mod Stores
@@ -17,4 +21,3 @@ pub mod Fits
 pub mod Puts
 pub mod Writes
 pub mod Laws
-pub mod Worked

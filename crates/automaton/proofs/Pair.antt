@@ -1,16 +1,16 @@
 -- The laws of the pair, over the definitions: a byte string reads as an automaton exactly when it is that automaton's file and the automaton is valid; no valid file is longer than 747 bytes.
-use Prim.Native.Nat.{ℕ, zero, suc, _+_, _*_, _^_, _≤_, _<_}
+use Prim.Native.Nat.{ℕ, zero, suc, _+_, _^_, _≤_, _<_}
 use mathlib.Core.Bool.{Bool, true, false}
 use mathlib.Core.Path.{_≡_, refl, sym, ap, subst, _∙_}
 use mathlib.Core.List.{List, [], _∷_, _++_, append-assoc, append-nil}
 use native.Mathlib.Decide.{ℕ-discrete}
 use native.Mathlib.Omega.{arith}
-use lib.ListN.{length, getD, drop, length-append}
+use lib.ListN.{length, drop, length-append}
 use Rattle.automaton.specs.Held.{Rule, Held, All, ValidRule, Valid}
-use Rattle.automaton.specs.File.{fileRecord, headRecord, symbolRecord, rowRecord, endRecord, each, fileOf}
-use Rattle.automaton.specs.Checks.{Verdict, holds, fault, SoFar, nothing, given, Found, wrong, more, end, numberAt, isNone, kindAllowed, recordFound, follow, verdictFrom, verdict}
+use Rattle.automaton.specs.File.{headRecord, symbolRecord, rowRecord, endRecord, each, fileOf}
+use Rattle.automaton.specs.Checks.{Verdict, holds, nothing, given, Found, wrong, more, end, numberAt, isNone, recordFound, follow, verdictFrom, verdict}
 use Rattle.automaton.proofs.Records.{Bytes, bytes-drop}
-use Rattle.automaton.proofs.Inverse.{nothing-not-end, HeadGood, head-good, SymbolGood, symbol-good, RowGood, row-good, other-none, EndGood, end-good}
+use Rattle.automaton.proofs.Inverse.{nothing-not-end, head-good, SymbolGood, symbol-good, RowGood, row-good, other-none, EndGood, end-good}
 
 -- ---- from bytes that read to a valid automaton and its file
 

@@ -1,10 +1,10 @@
 -- Lists in arrays with unused places: one more element goes to the next place.
 use Prim.Native.Nat.{ℕ, zero, suc, _+_, _-_, _≤_, _<_}
-use mathlib.Core.Path.{_≡_, refl, sym, ap, _∙_}
-use mathlib.Core.List.{List, [], _∷_, _++_, append-assoc}
+use mathlib.Core.Path.{_≡_, sym}
+use mathlib.Core.List.{List, [], _∷_, _++_}
 use native.Mathlib.Nat.{sub-zero}
 use native.Mathlib.Omega.{arith}
-use lib.ListN.{length, getD, take, drop, set, replicate, length-append, length-replicate, List·getD-append}
+use lib.ListN.{length, getD, take, set, replicate, length-append, length-replicate, List·getD-append}
 use lib.Seq.{set-append-seam, take-append-seam, take-append-le, append-snoc}
 use Rattle.automaton.specs.Answers.{filled, firsts}
 

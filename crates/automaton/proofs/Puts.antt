@@ -2,12 +2,11 @@
 use Prim.Native.Nat.{ℕ, zero, suc, _+_, _≤_, _<_}
 use mathlib.Core.Path.{_≡_, refl, sym, ap, _∙_}
 use mathlib.Core.List.{List, [], _∷_, _++_, map}
-use native.Mathlib.Nat.{le-antisymm, add-assoc}
-use native.Mathlib.Numerals.{add-one}
+use native.Mathlib.Nat.{le-antisymm}
 use native.Mathlib.Omega.{arith}
 use lib.ListN.{length, getD, take, length-append}
 use lib.Seq.{sets}
-use Rattle.automaton.specs.Held.{Rule, ValidRule}
+use Rattle.automaton.specs.Held.{ValidRule}
 use Rattle.automaton.specs.File.{rowRecord, each}
 use Rattle.automaton.specs.Answers.{ruleHeld}
 use Rattle.automaton.specs.Inside.{RowThere, RowsThere}

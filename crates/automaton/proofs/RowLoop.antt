@@ -2,26 +2,24 @@
 use Prim.Native.Nat.{ℕ, _+_, _-_, _≤_, _<_}
 use mathlib.Core.Bool.{Bool, true, false, cond, not, _&&_, _||_}
 use mathlib.Core.Path.{_≡_, refl, sym, ap, _∙_}
-use mathlib.Core.List.{List, [], _∷_, _++_, map}
-use native.Mathlib.Decide.{ℕ-discrete}
+use mathlib.Core.List.{List, [], _∷_, _++_, map, map-append}
 use native.Mathlib.Omega.{arith}
 use lib.Dec.{leb, eqb}
 use lib.ListN.{length, getD, take, drop, set, replicate, length-append, length-map, length-drop}
-use lib.Seq.{drop-drop}
-use borrow.Author.Tests.{le-leb, lt-leb, eq-eqb, ne-eqb, eqb-true, eqb-false, leb-true}
-use Rattle.automaton.specs.Held.{Rule, Held}
-use Rattle.automaton.specs.Checks.{holds, fault, given, Found, wrong, more, end, wrongIf, numberAt, isNone, kindAllowed, lengthAllowed, allBelow, rowValues, values, recordFound, follow}
+use borrow.Author.Tests.{le-leb, lt-leb, eq-eqb, ne-eqb, eqb-true, leb-true}
+use Rattle.automaton.specs.Held.{Rule}
+use Rattle.automaton.specs.Checks.{holds, fault, given, Found, more, end, wrongIf, numberAt, isNone, kindAllowed, allBelow, rowValues, values, recordFound, follow}
 use Rattle.automaton.specs.Answers.{filled, placedRow, unusedRow}
-use Rattle.automaton.specs.Inside.{allowedBy, frameOf, verdictAt, heldSoFar, ruleOf, ruleFault, Knows, RowRead, RowsAsked, Ended, RowsRead}
+use Rattle.automaton.specs.Inside.{allowedBy, frameOf, verdictAt, heldSoFar, ruleOf, ruleFault, Knows, RowRead, RowsAsked, RowsRead}
 use Rattle.automaton.specs.declared.Row.{Row}
 use Rattle.automaton.specs.declared.reader.Frame.{Frame}
 use Rattle.automaton.specs.declared.reader.Ruled.{Ruled}
-use Rattle.automaton.specs.declared.reader.Rules.{Rules}
-use Rattle.automaton.proofs.Frames.{length-row, length-end}
+use Rattle.automaton.proofs.Truth.{and-parts}
+use Rattle.automaton.proofs.Frames.{length-row}
 use Rattle.automaton.proofs.Verdicts.{Passed, frame-passed, passed-frame, found-values, at-wrong, at-more, at-end}
 use Rattle.automaton.proofs.Symbols.{none-length}
 use Rattle.automaton.proofs.Places.{filled-none, filled-set}
-use Rattle.automaton.proofs.Stages.{allowed-given, frame-fails, frame-passes, frame-kind-is, frame-size-is}
+use Rattle.automaton.proofs.Stages.{allowed-given, frame-fails, frame-passes}
 
 -- ---- one row by the definition
 
@@ -47,8 +45,7 @@ module _ (states finals : ℕ) (known : List ℕ) (rules : List Rule) (payload :
 
 -- a map over one more
 pub map-snoc : {A B : Type 0} (f : A → B) (xs : List A) (x : A) → map f (xs ++ (x ∷ [])) ≡ map f xs ++ (f x ∷ [])
-map-snoc f [] x = refl
-map-snoc f (y ∷ xs) x = ap (λ (l : List _). f y ∷ l) (map-snoc f xs x)
+map-snoc f xs x = map-append f xs (x ∷ [])
 
 -- only a row or the end may stand after the symbols
 only-row : (kind : ℕ) → allowedBy false false true kind ≡ true → (kind ≡ 9 → ⊥) → kind ≡ 3
@@ -70,15 +67,6 @@ no-symbol kind b n = rw (ne-eqb kind 2 n)
 some-none : (known : List ℕ) → 1 ≤ length known → isNone known ≡ false
 some-none [] h = absurd (omega arith)
 some-none (x ∷ xs) h = refl
-
-and-left : (a b : Bool) → (a && b) ≡ true → a ≡ true
-and-left true b h = refl
-and-left false b h = h
-
-and-right : (a b : Bool) → (a && b) ≡ true → b ≡ true
-and-right true b h = h
-and-right false true h = refl
-and-right false false h = h
 
 pub record RowsSoFar (file : List ℕ) (start states symbols : ℕ) (arities : List ℕ) (rows : List Row) (count at : ℕ) : Type 0 where
   pub rules : List Rule
@@ -185,10 +173,10 @@ module _ (file : List ℕ) (start states symbols : ℕ) (arities : List ℕ) (ro
         row-sizes = rw (size-is, length-row (numberAt (drop at file) 0), ← row-kind) (passed .sized)
 
         pub row-two : 2 ≤ f .size
-        row-two = leb-true 2 (f .size) (and-left (leb 2 (f .size)) (leb (f .size) 5) row-sizes)
+        row-two = leb-true 2 (f .size) (and-parts (leb 2 (f .size)) (leb (f .size) 5) row-sizes .0)
 
         pub row-five : f .size ≤ 5
-        row-five = leb-true (f .size) 5 (and-right (leb 2 (f .size)) (leb (f .size) 5) row-sizes)
+        row-five = leb-true (f .size) 5 (and-parts (leb 2 (f .size)) (leb (f .size) 5) row-sizes .1)
 
         pub row-there : at + (4 + f .size) ≤ length file
         row-there = omega (arith, size-is, inv .within, rw length-drop at (passed .there))

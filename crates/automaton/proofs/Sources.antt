@@ -1,13 +1,13 @@
 -- The sources of a row: the loop that copies them as long as each is a state.
 use Prim.Native.Nat.{ℕ, zero, suc, _+_, _-_, _≤_, _<_}
-use mathlib.Core.Bool.{Bool, true, false, _&&_, false≢true}
+use mathlib.Core.Bool.{Bool, true, false, _&&_, and-false, false≢true}
 use mathlib.Core.Path.{_≡_, refl, sym, ap, _∙_}
 use mathlib.Core.List.{List, [], _∷_, _++_}
 use native.Mathlib.Nat.{le-antisymm}
 use native.Mathlib.Numerals.{add-one}
 use native.Mathlib.Omega.{arith}
 use lib.Dec.{ltb}
-use lib.ListN.{length, getD, take, drop, set, replicate, length-take, length-drop}
+use lib.ListN.{length, getD, take, drop, set, replicate, length-drop}
 use lib.Seq.{take-suc, length-take-le, getD-take, getD-drop}
 use borrow.Author.Tests.{lt-ltb, le-ltb}
 use Rattle.automaton.specs.Checks.{allBelow}
@@ -30,11 +30,7 @@ module _ (bound : ℕ) where
   unfolding allBelow
   below-fails [] i l h = absurd (omega arith)
   below-fails (x ∷ xs) zero l h = rw (le-ltb x bound h)
-  below-fails (x ∷ xs) (suc i) l h = rw (below-fails xs i (omega arith) h) (go (ltb x bound))
-    where
-      go : (b : Bool) → (b && false) ≡ false
-      go true = refl
-      go false = refl
+  below-fails (x ∷ xs) (suc i) l h = rw (below-fails xs i (omega arith) h) (and-false (ltb x bound))
 
 pub record SourcesSoFar (file : List ℕ) (at arity states : ℕ) (places : List ℕ) (i : ℕ) : Type 0 where
   pub within : i ≤ arity

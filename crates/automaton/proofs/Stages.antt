@@ -1,45 +1,31 @@
 -- The reader's stages: what each record leads to, in the terms in which the code finds it.
-use Prim.Native.Nat.{ℕ, zero, suc, _+_, _-_, _/_, _^_, _≤_, _<_}
-use mathlib.Core.Bool.{Bool, true, false, cond, not, _&&_, _||_}
+use Prim.Native.Nat.{ℕ, _+_, _-_, _/_, _^_, _≤_, _<_}
+use mathlib.Core.Bool.{Bool, true, false, not, and-true, and-false, or-false}
 use mathlib.Core.Path.{_≡_, refl, sym, ap, _∙_}
 use mathlib.Core.List.{List, [], _∷_, _++_}
 use native.Mathlib.Nat.{add-assoc, add-zero, div-eq-of-lt, div-lt-iff-lt-mul}
-use native.Mathlib.Decide.{ℕ-discrete}
 use native.Mathlib.Omega.{arith}
 use lib.Dec.{leb, ltb, eqb}
 use lib.Pow.{pow-pos}
-use lib.ListN.{length, getD, take, drop, length-drop, length-take}
+use lib.ListN.{length, getD, take, drop, length-drop}
 use lib.Seq.{getD-drop, getD-take, drop-drop}
-use borrow.Author.Tests.{lt-ltb, le-ltb, le-leb, lt-leb, eq-eqb, ne-eqb, eqb-true, eqb-false, leb-true, leb-false}
-use Rattle.automaton.specs.Held.{Rule, Held}
-use Rattle.automaton.specs.Checks.{Verdict, holds, fault, SoFar, nothing, given, Found, wrong, more, end, wrongIf, numberAt, isNone, kindAllowed, lengthAllowed, headValues, symbolValues, values, recordFound}
-use Rattle.automaton.specs.Answers.{filled}
-use Rattle.automaton.specs.Inside.{allowedBy, noFrame, frameOf, verdictAt, heldSoFar, HeadRead, Leads}
+use borrow.Author.Tests.{lt-ltb, le-ltb, le-leb, lt-leb, eq-eqb, ne-eqb, eqb-true, leb-true, leb-false}
+use Rattle.automaton.specs.Held.{Held}
+use Rattle.automaton.specs.Checks.{fault, SoFar, nothing, given, wrong, more, wrongIf, numberAt, isNone, kindAllowed, lengthAllowed, symbolValues, values, recordFound}
+use Rattle.automaton.specs.Inside.{allowedBy, frameOf, verdictAt, heldSoFar}
 use Rattle.automaton.specs.declared.reader.Frame.{Frame}
-use Rattle.automaton.proofs.Frames.{number-drop, length-head, length-symbol}
-use Rattle.automaton.proofs.Verdicts.{Passed, frame-passed, passed-frame, found-values, found-wrong, at-wrong, at-more, at-end}
+use Rattle.automaton.proofs.Frames.{length-symbol}
+use Rattle.automaton.proofs.Verdicts.{Passed, frame-passed, passed-frame, found-values, found-wrong, at-wrong, at-more}
 
 -- ---- the kinds that the code allows are those that the definition allows
 
-and-none : (b : Bool) → (b && false) ≡ false
-and-none true = refl
-and-none false = refl
-
-and-all : (b : Bool) → (b && true) ≡ b
-and-all true = refl
-and-all false = refl
-
-or-none : (b : Bool) → (b || false) ≡ b
-or-none true = refl
-or-none false = refl
-
 pub allowed-nothing : (kind : ℕ) → allowedBy true false false kind ≡ kindAllowed nothing kind
 unfolding allowedBy kindAllowed
-allowed-nothing kind = simp (and-none, and-all, or-none)
+allowed-nothing kind = simp (and-false, and-true, or-false)
 
 pub allowed-given : (held : Held) (kind : ℕ) → allowedBy false (isNone (held .rules)) (not (isNone (held .arities))) kind ≡ kindAllowed (given held) kind
 unfolding allowedBy kindAllowed
-allowed-given held kind = simp (and-none)
+allowed-given held kind = simp (and-false)
 
 pub frame-same : (allowed other : ℕ → Bool) (bytes : List ℕ) → allowed (numberAt bytes 2) ≡ other (numberAt bytes 2) → frameOf allowed bytes ≡ frameOf other bytes
 unfolding frameOf

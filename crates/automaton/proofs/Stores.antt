@@ -1,15 +1,13 @@
 -- Runs of stores into a buffer: one run after another is one run; and the records of the file as the writer stores them.
-use Prim.Native.Nat.{ℕ, zero, suc, _+_, _*_, _/_, _%_, _≤_, _<_}
-use mathlib.Core.Path.{_≡_, refl, sym, ap, _∙_}
-use mathlib.Core.List.{List, [], _∷_, _++_, append-assoc, append-nil, map}
+use Prim.Native.Nat.{ℕ, suc, _+_, _*_, _≤_, _<_}
+use mathlib.Core.Path.{_≡_, sym, ap, _∙_}
+use mathlib.Core.List.{List, [], _∷_, _++_, append-assoc, append-nil}
 use native.Mathlib.Nat.{add-zero, add-suc, suc-add, mod-eq-of-lt, div-eq-of-lt}
 use native.Mathlib.Numerals.{add-one, add-two, add-three}
 use native.Mathlib.Omega.{arith}
-use lib.ListN.{length, getD, take, drop, set, length-append}
-use lib.Seq.{sets, sets-eq, take-suc, length-take-le}
-use Rattle.automaton.specs.Held.{Rule, All}
+use lib.ListN.{length, getD, take, set}
+use lib.Seq.{sets, take-suc, length-take-le}
 use Rattle.automaton.specs.File.{twoBytes, fileRecord, symbolRecord, rowRecord, each}
-use Rattle.automaton.specs.declared.Row.{Row}
 use Rattle.automaton.proofs.Files.{symbols-length}
 
 module _ {A : Type 0} where

@@ -6,10 +6,10 @@ use mathlib.Core.List.{List, [], _∷_, _++_}
 use native.Mathlib.Omega.{arith}
 use lib.Dec.{eqb}
 use lib.ListN.{length, getD, drop, set, replicate, length-append}
-use borrow.Author.Tests.{eq-eqb, ne-eqb, eqb-true, eqb-false}
+use borrow.Author.Tests.{ne-eqb, eqb-true}
 use Rattle.automaton.specs.Checks.{fault, given, numberAt, isNone, kindAllowed}
 use Rattle.automaton.specs.Answers.{filled}
-use Rattle.automaton.specs.Inside.{allowedBy, frameOf, verdictAt, heldSoFar, Leads, SymbolsRead}
+use Rattle.automaton.specs.Inside.{allowedBy, frameOf, verdictAt, heldSoFar, SymbolsRead}
 use Rattle.automaton.specs.declared.reader.Frame.{Frame}
 use Rattle.automaton.proofs.Verdicts.{Passed, at-wrong}
 use Rattle.automaton.proofs.Places.{filled-none, filled-set}

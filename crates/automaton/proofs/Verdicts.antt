@@ -1,17 +1,16 @@
 -- What a file is found to be, one record at a time: from its frame, to its values, to the rest of the file. The number of turns does not matter as long as there are enough.
 use Prim.Native.Nat.{ℕ, zero, suc, _+_, _-_, _≤_, _<_}
-use mathlib.Core.Bool.{Bool, true, false, cond, not, _&&_, _||_}
-use mathlib.Core.Path.{_≡_, refl, sym, ap, subst, _∙_}
-use mathlib.Core.List.{List, [], _∷_}
-use native.Mathlib.Nat.{add-assoc}
+use mathlib.Core.Bool.{Bool, true, false, cond, not}
+use mathlib.Core.Path.{_≡_, refl, ap, _∙_}
+use mathlib.Core.List.{List}
 use native.Mathlib.Decide.{ℕ-discrete}
 use native.Mathlib.Omega.{arith}
-use lib.Dec.{leb, ltb, eqb}
-use lib.ListN.{length, getD, take, drop, length-drop}
-use lib.Seq.{getD-drop, getD-take, drop-drop}
-use borrow.Author.Tests.{le-ltb, ltb-false, not-false, eqb-true}
+use lib.Dec.{ltb}
+use lib.ListN.{length, take, drop, length-drop}
+use lib.Seq.{drop-drop}
+use borrow.Author.Tests.{le-ltb, ltb-false, not-false}
 use Rattle.automaton.specs.Held.{Held}
-use Rattle.automaton.specs.Checks.{Verdict, holds, fault, SoFar, nothing, given, Found, wrong, more, end, wrongIf, numberAt, isNone, kindAllowed, lengthAllowed, values, recordFound, follow, verdictFrom}
+use Rattle.automaton.specs.Checks.{Verdict, holds, fault, SoFar, given, Found, wrong, more, end, wrongIf, numberAt, isNone, kindAllowed, lengthAllowed, values, recordFound, follow, verdictFrom}
 use Rattle.automaton.specs.Inside.{noFrame, frameOf, verdictAt}
 
 -- the checks before a record's values have passed

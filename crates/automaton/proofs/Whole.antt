@@ -3,13 +3,12 @@ use Prim.Native.Nat.{ℕ, _≤_}
 use mathlib.Core.Path.{_≡_, refl, sym, ap, _∙_}
 use mathlib.Core.List.{List, [], map}
 use lib.ListN.{length}
-use Rattle.automaton.specs.Checks.{Verdict, holds, fault, nothing, given, verdict}
+use Rattle.automaton.specs.Checks.{fault, nothing, given, verdict}
 use Rattle.automaton.specs.Answers.{filled, placedRow, unusedRow, placed, noAutomaton, readingOf, readAnswer}
 use Rattle.automaton.specs.Inside.{verdictAt, heldSoFar, HeadRead, SymbolsRead, Knows, RowsAsked, RowsRead}
 use Rattle.automaton.specs.Held.{Rule}
 use Rattle.automaton.specs.declared.Row.{Row}
 use Rattle.automaton.specs.declared.Automaton.{Automaton}
-use Rattle.automaton.specs.declared.Reading.{Reading}
 use Rattle.automaton.specs.declared.reader.Head.{Head}
 use Rattle.automaton.specs.declared.reader.Symbols.{Symbols}
 use Rattle.automaton.specs.declared.reader.Rules.{Rules}

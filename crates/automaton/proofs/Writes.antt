@@ -1,24 +1,22 @@
 -- The writer's parts together: the length of a value's file, its bytes, and what `write` promises.
-use Prim.Native.Nat.{ℕ, zero, suc, _+_, _-_, _*_, _^_, _≤_, _<_}
-use mathlib.Core.Bool.{Bool, true, false}
+use Prim.Native.Nat.{ℕ, _+_, _-_, _*_, _^_, _≤_, _<_}
+use mathlib.Core.Bool.{true, false}
 use mathlib.Core.Path.{_≡_, refl, sym, ap, _∙_}
-use mathlib.Core.List.{List, [], _∷_, _++_, map}
+use mathlib.Core.List.{List, _++_, map}
 use native.Mathlib.Nat.{zero-add}
 use native.Mathlib.Omega.{arith}
 use lib.Dec.{leb}
-use lib.ListN.{length, take, drop, length-append, length-take, length-replicate, length-map}
-use lib.Seq.{sets, sets-eq, length-take-le, length-sets}
+use lib.ListN.{length, take, length-append, length-replicate, length-map}
+use lib.Seq.{sets, sets-eq, length-take-le}
 use borrow.Author.Tests.{leb-true, leb-false}
-use Rattle.automaton.specs.Held.{Rule, Held, All, ValidRule, Valid}
+use Rattle.automaton.specs.Held.{Held, All, ValidRule, Valid}
 use Rattle.automaton.specs.File.{headRecord, symbolRecord, rowRecord, endRecord, each, fileOf}
 use Rattle.automaton.specs.Answers.{filled, firsts, unusedRow, ruleHeld, heldBy, writing, Written}
-use Rattle.automaton.specs.Inside.{Decides, RowsFit, RowsThere, FileSized}
-use Rattle.automaton.specs.declared.Row.{Row}
+use Rattle.automaton.specs.Inside.{RowsFit, RowsThere, FileSized}
 use Rattle.automaton.specs.declared.Automaton.{Automaton}
-use Rattle.automaton.specs.declared.Writing.{Writing}
 use Rattle.automaton.specs.declared.writer.Fitted.{Fitted}
-use Rattle.automaton.proofs.Places.{filled-length, firsts-take}
-use Rattle.automaton.proofs.Files.{symbols-length, head-length, end-length, file-parts}
+use Rattle.automaton.proofs.Places.{firsts-take}
+use Rattle.automaton.proofs.Files.{symbols-length, head-length, file-parts}
 use Rattle.automaton.proofs.Stores.{sets-next}
 
 firsts-length : {A : Type 0} (n : ℕ) (unused : A) (xs : List A) → length (firsts n unused xs) ≡ n
@@ -93,7 +91,7 @@ module _ (value : Automaton) where
             few-symbols = rw (length-take-le (value .symbols) (value .arities) symbols) few-symbols;
             small-arities = small;
             few-rules = rw (length-map (take (value .count) (value .rows)) (ruleHeld (take (value .symbols) (value .arities))), length-take-le (value .count) (value .rows) rows) few-rules;
-            valid-rules = fitted .decided .yes-so fine;
+            valid-rules = fitted .decided .only fine;
           })
 
       pub size-is : FileSized value (11 + 5 * value .symbols + f .length)

@@ -1,7 +1,7 @@
 -- Document 01, "The automaton file" and "Refusal numbers": what `read` answers for a file's bytes, and what `write` answers and leaves in the buffer for a value.
 use Prim.Native.Nat.{ℕ, _-_, _≤_, _<_}
 use mathlib.Core.Path.{_≡_}
-use mathlib.Core.List.{List, [], _∷_, _++_, map}
+use mathlib.Core.List.{List, _++_, map}
 use lib.ListN.{length, getD, take, drop, replicate}
 use Rattle.automaton.specs.declared.Row.{Row}
 use Rattle.automaton.specs.declared.Automaton.{Automaton}

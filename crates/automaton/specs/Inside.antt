@@ -1,10 +1,11 @@
 -- What the private parts of the reader and the writer promise one another. Nothing here needs to be believed: the public promises cite none of it.
 use Prim.Native.Nat.{ℕ, suc, _+_, _≤_, _<_}
-use mathlib.Core.Bool.{Bool, true, false, cond, not, _&&_, _||_}
+use mathlib.Core.Bool.{Bool, true, cond, not, _&&_, _||_}
 use mathlib.Core.Path.{_≡_}
-use mathlib.Core.List.{List, [], _∷_, _++_, map}
+use mathlib.Core.List.{List, [], map}
 use lib.Dec.{leb, ltb, eqb}
 use lib.ListN.{length, getD, take, drop}
+use Rattle.automaton.specs.Decides.{Decides}
 use Rattle.automaton.specs.Held.{Rule, Held, All, ValidRule, Valid}
 use Rattle.automaton.specs.File.{rowRecord, each, fileOf}
 use Rattle.automaton.specs.Checks.{Verdict, holds, fault, SoFar, nothing, given, numberAt, lengthAllowed, allBelow, verdictFrom}
@@ -108,11 +109,6 @@ pub record RowsRead (file : List ℕ) (start : ℕ) (held : Held) (r : Rules) : 
   pub ended : r .fault ≡ 0 → Ended file start held r
 
 -- ---- the writer
-
--- an answer to whether something holds
-pub record Decides (P : Type 0) (r : Bool) : Type 0 where
-  pub yes-so : r ≡ true → P
-  pub not-so : r ≡ false → P → ⊥
 
 -- the length of a row's record, 0 for a row that no file can hold
 pub record RowSized (states : ℕ) (known : List ℕ) (row : Row) (r : ℕ) : Type 0 where

@@ -1,3 +1,4 @@
+pub mod Decides
 pub mod Held
 pub mod File
 pub mod Checks

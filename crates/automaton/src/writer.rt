@@ -5,11 +5,12 @@ ghost use mathlib.Core.List.{List, [], _∷_, map};
 ghost use Prim.Native.Nat.{ℕ, _+_, _*_, _≤_, _<_};
 ghost use lib.ListN.{length, take, getD};
 ghost use lib.Seq.{sets};
+ghost use Rattle.automaton.specs.Decides.{Decides};
 ghost use Rattle.automaton.specs.Held.{All};
 ghost use Rattle.automaton.specs.File.{headRecord, symbolRecord, rowRecord, endRecord, each};
 ghost use Rattle.automaton.specs.Checks.{allBelow};
 ghost use Rattle.automaton.specs.Answers.{ruleHeld};
-ghost use Rattle.automaton.specs.Inside.{Decides, RowSized, RowsFit, RowThere, RowsThere};
+ghost use Rattle.automaton.specs.Inside.{RowSized, RowsFit, RowThere, RowsThere};
 
 fn index(byte: u8) -> usize
     ensures { λ r. ⌜ (r ≡ byte) × (r < 256) ⌝ }

@@ -15,7 +15,7 @@ use Rattle.claims.specs.DraftFiles.{fileP}
 use Rattle.claims.specs.ComputedFiles.{opened, times, rule, heldP, looseP, longest, FileCases}
 
 P-file : fileOf heldP ≡ fileP
-unfolding fileOf each headRecord symbolRecord rowRecord endRecord fileRecord twoBytes fileP heldP
+unfolding fileOf each headRecord symbolRecord rowRecord endRecord fileRecord twoBytes fileP
 P-file = refl
 
 longest-747 : length (fileOf longest) ≡ 747
@@ -41,11 +41,10 @@ longest-valid =
     }
 
 P-loose : (others : List ℕ) (rows : List Row) → heldBy (looseP others rows) ≡ heldP
-unfolding heldBy firsts filled ruleHeld looseP heldP
+unfolding heldBy firsts filled ruleHeld looseP
 P-loose others rows = refl
 
 P-valid : Valid heldP
-unfolding heldP
 P-valid = omega arith
 
 module _ (others : List ℕ) (rows : List Row) (after : List ℕ) (w : Writing) where
@@ -64,7 +63,7 @@ module _ (others : List ℕ) (rows : List Row) (after : List ℕ) (w : Writing) 
   P-unwritten x = x .short valid (rw file (omega arith))
 
 pub file-cases : FileCases
-unfolding verdict verdictFrom recordFound values headValues symbolValues rowValues allBelow kindAllowed lengthAllowed numberAt opened times fileP heldP readAnswer readingOf placed filled placedRow unusedRow
+unfolding verdict verdictFrom recordFound values headValues symbolValues rowValues allBelow kindAllowed lengthAllowed numberAt opened times fileP readAnswer readingOf placed filled placedRow unusedRow
 file-cases =
     record {
       nothing-there = refl;

@@ -17,8 +17,8 @@ use Rattle.trees.specs.Runs.{Reaches, ReachesEach, Accepted, Productive}
 use Rattle.trees.specs.Promises.{noRun, ProductivePromise}
 use Rattle.trees.specs.Piles.{put, pileOf, runTo, pileAnswer, wordsAnswer}
 use Rattle.trees.proofs.Answers.{answer-tree, one-set}
-use Rattle.elimination.proofs.Drafts.{unused}
-use Rattle.elimination.proofs.Lists.{of-all}
+use Rattle.claims.proofs.Drafts.{unused}
+use Rattle.trees.proofs.Lists.{of-all}
 use Rattle.claims.specs.DraftFiles.{fileUnused}
 use Rattle.claims.specs.WorkedDrafts.{leaf, over, pair}
 use Rattle.claims.specs.ComputedFiles.{rule, heldP}
@@ -28,7 +28,7 @@ use Rattle.claims.proofs.DraftsHeld.{drafts-held}
 -- ---- words
 
 one-tree : IsTree heldP (1 ∷ 0 ∷ 0 ∷ []) (pair 1 (leaf 0) (leaf 0))
-unfolding heldP prefix prefixes count
+unfolding prefix prefixes count
 one-tree = record { of-known = omega arith; in-order = refl; some-word = omega arith; few-words = omega arith }
 
 -- words that are refused are no tree
@@ -37,53 +37,47 @@ unfolding noRun runTo
 refused held words e t is = let z = ap (λ (a : ReachedStates). a .refusal .number) (sym e ∙ answer-tree held words t is) in omega arith
 
 half : wordsAnswer heldP (1 ∷ 0 ∷ []) ≡ noRun 7
-unfolding wordsAnswer pileAnswer pileOf put heldP
+unfolding wordsAnswer pileAnswer pileOf put
 half = refl
 
 two : wordsAnswer heldP (0 ∷ 0 ∷ []) ≡ noRun 7
-unfolding wordsAnswer pileAnswer pileOf put heldP
+unfolding wordsAnswer pileAnswer pileOf put
 two = refl
 
 no-words : wordsAnswer heldP [] ≡ noRun 7
-unfolding wordsAnswer pileAnswer pileOf heldP
+unfolding wordsAnswer pileAnswer pileOf
 no-words = refl
 
 unknown : wordsAnswer heldP (2 ∷ []) ≡ noRun 7
-unfolding wordsAnswer pileAnswer pileOf put heldP
+unfolding wordsAnswer pileAnswer pileOf put
 unknown = refl
 
 -- ---- states
 
 leaf-0 : Reaches (heldP .rules) (leaf 0) 0
-unfolding heldP
 leaf-0 = (rule 0 0 [], List·Memᴰ·head refl, refl, refl, tt)
 
 reaches : Reaches (heldP .rules) (pair 1 (leaf 0) (leaf 0)) 1
-unfolding heldP
 reaches = (rule 1 1 (0 ∷ 0 ∷ []), List·Memᴰ·tail (List·Memᴰ·head refl), refl, refl, (leaf-0, (leaf-0, tt)))
 
 not-this : Reaches (heldP .rules) (pair 1 (leaf 0) (leaf 0)) 0 → ⊥
-unfolding heldP
 not-this x =
     of-all (λ r. r .symbol ≡ 1 → r .target ≡ 0 → ⊥) (heldP .rules) (λ i j. omega arith, (λ i j. omega arith, (λ i j. omega arith, tt))) (x .1) (x .2) (x .3)
 
 not-leaf : Reaches (heldP .rules) (leaf 0) 1 → ⊥
-unfolding heldP
 not-leaf x =
     of-all (λ r. r .symbol ≡ 0 → r .target ≡ 1 → ⊥) (heldP .rules) (λ i j. omega arith, (λ i j. omega arith, (λ i j. omega arith, tt))) (x .1) (x .2) (x .3)
 
 not-turned : (q : ℕ) → Reaches (heldP .rules) (pair 1 (leaf 0) (pair 1 (leaf 0) (leaf 0))) q → ⊥
-unfolding heldP
 not-turned q x =
     of-all (λ r. r .symbol ≡ 1 → ReachesEach (heldP .rules) (leaf 0 ∷ᶠ pair 1 (leaf 0) (leaf 0) ∷ᶠ []ᶠ) (r .sources) → ⊥) (heldP .rules)
     (λ i y. omega arith, (λ i y. not-this (y .1 .0), (λ i y. not-leaf (y .0), tt))) (x .1) (x .2) (x .4)
 
 accepted : Accepted heldP (pair 1 (leaf 0) (leaf 0))
-unfolding heldP has
+unfolding has
 accepted = (1, refl, reaches)
 
 not-accepted : Accepted heldP (leaf 0) → ⊥
-unfolding heldP
 not-accepted x =
     let e : x .0 ≡ 1 = eqb-true (x .0) 1 (sym (has-pow 1 (x .0)) ∙ x .1) in
     not-leaf (subst (λ (q : ℕ). Reaches (heldP .rules) (leaf 0) q) e (x .2))

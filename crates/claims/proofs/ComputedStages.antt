@@ -15,7 +15,6 @@ use Rattle.elimination.specs.Acceptance.{OpenOnly, fills, stays, AcceptsAt, Acc
 use Rattle.elimination.specs.Stages.{holesTable, ruleShape, rulesTable, startTable, ruleRows, start, altMade, catMade, iterMade, joinMadeFrom, joinMade, loopingNode, incomingNode, outgoingNode, standInMade, replacedMade, replacedRows, remainsNode, eliminatedStage, eliminatedStages, stageAfter, joinStage, converted, nodeBound}
 use Rattle.elimination.specs.Answers.{wholeNodes}
 use Rattle.claims.specs.WorkedDrafts.{leaf}
-use Rattle.claims.specs.ComputedFiles.{heldP}
 use Rattle.claims.specs.Computed.{leafᴱ, waiting, StageCases}
 
 -- ---- the list
@@ -70,7 +69,7 @@ accepted t x = go (x .0) (x .1)
     go (suc m) y = toward-0 m t (toward-16 m t y)
 
 pub stage-cases : StageCases
-unfolding heldP nodeBound wholeNodes converted stageAfter eliminatedStages eliminatedStage start startTable holesTable rulesTable ruleShape ruleRows finalStates those ascending joinStage joinMade joinMadeFrom altMade catMade iterMade standInMade replacedRows replacedMade loopingNode incomingNode outgoingNode remainsNode completed opensIn opensOf catOpens children childCount labelOf has union without oneSet emptySet setOf
+unfolding nodeBound wholeNodes converted stageAfter eliminatedStages eliminatedStage start startTable holesTable rulesTable ruleShape ruleRows finalStates those ascending joinStage joinMade joinMadeFrom altMade catMade iterMade standInMade replacedRows replacedMade loopingNode incomingNode outgoingNode remainsNode completed opensIn opensOf catOpens children childCount labelOf has union without oneSet emptySet setOf
 stage-cases =
     record {
       P-start = (refl, refl);

@@ -17,7 +17,7 @@ use Rattle.expressions.specs.Listing.{decimalIn, decimal, kindName, labelFields
 use Rattle.expressions.specs.Making.{refusal, Makes}
 use Rattle.expressions.proofs.Words.{length-table}
 use Rattle.expressions.proofs.Soundness.{sound-none, sound-made}
-use Rattle.expressions.proofs.Deciding.{decides-no, decides-once}
+use Rattle.automaton.proofs.Deciding.{decides-no, decides-once}
 use Rattle.claims.specs.WorkedDrafts.{wordsP}
 use Rattle.claims.specs.Computed.{doubled, Says, TableCases}
 

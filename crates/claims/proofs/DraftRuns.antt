@@ -8,7 +8,7 @@ use Rattle.trees.specs.declared.ReachedStates.{ReachedStates}
 use Rattle.trees.specs.Promises.{noRun, RunPromise}
 use Rattle.trees.specs.Piles.{any, anyBelow, meets, eachIn, gives, reachedFrom, put, pileOf, runTo, pileAnswer, wordsAnswer}
 use Rattle.trees.proofs.Promised.{answerFor, runAnswer, run-answer}
-use Rattle.elimination.proofs.Drafts.{P}
+use Rattle.claims.proofs.Drafts.{P}
 use Rattle.claims.specs.DraftFiles.{fileP}
 use Rattle.claims.specs.WorkedDrafts.{ran}
 use Rattle.claims.proofs.DraftsHeld.{drafts-held}

@@ -13,9 +13,10 @@ use Rattle.expressions.specs.Sizes.{heldSize, sizesOf}
 use Rattle.expressions.specs.Listing.{decimalIn, decimal, kindName, labelFields, spaced, line, labelNumber, plainLabel, headFields, nodeLine, nodeLines, answerLine, listing}
 use Rattle.expressions.specs.Answers.{listingOf}
 use Rattle.elimination.specs.RowLists.{those, ascending, finalStates}
-use Rattle.elimination.specs.Stages.{holesTable, ruleShape, rulesTable, startTable, ruleRows, start, altMade, catMade, iterMade, joinMadeFrom, joinMade, loopingNode, incomingNode, outgoingNode, standInMade, replacedMade, replacedRows, remainsNode, eliminatedStage, eliminatedStages, stageAfter, waitsFor}
+use Rattle.elimination.specs.Stages.{holesTable, ruleShape, rulesTable, startTable, ruleRows, start, altMade, catMade, iterMade, joinMadeFrom, joinMade, loopingNode, incomingNode, outgoingNode, standInMade, replacedMade, replacedRows, remainsNode, eliminatedStage, eliminatedStages, stageAfter, joinStage, converted, waitsFor}
 use Rattle.elimination.specs.Answers.{listRow, listOfRows, partlyDone}
-use Rattle.elimination.proofs.Drafts.{P}
+use Rattle.front.specs.Text.{convertedListing}
+use Rattle.claims.proofs.Drafts.{P}
 use Rattle.claims.specs.WorkedDrafts.{part, place, wordsP, sizesP, listingP}
 
 pub P-size : (rest : List ℕ) → heldSize (exprAt (tableOf (wordsP ++ rest) 10) 9) ≡ 12
@@ -43,3 +44,9 @@ P-one-done = refl
 pub P-one-words : wordsOf (stageAfter 1 P .table) ≡ take 48 wordsP
 unfolding wordsP wordsOf encode stageAfter eliminatedStages eliminatedStage start startTable holesTable rulesTable ruleShape ruleRows finalStates those ascending joinMade joinMadeFrom altMade catMade iterMade standInMade replacedRows replacedMade loopingNode incomingNode outgoingNode remainsNode completed opensIn opensOf catOpens children childCount labelOf has union without oneSet emptySet setOf
 P-one-words = refl
+
+-- the text that is printed for P
+
+pub P-text : convertedListing P ≡ listingP
+unfolding convertedListing listingP children childCount listing answerLine nodeLines nodeLine headFields plainLabel labelNumber line spaced labelFields kindName decimal decimalIn converted joinStage stageAfter eliminatedStages eliminatedStage start startTable holesTable rulesTable ruleShape ruleRows finalStates those ascending joinMade joinMadeFrom altMade catMade iterMade standInMade replacedRows replacedMade loopingNode incomingNode outgoingNode remainsNode completed opensIn opensOf catOpens labelOf has union without oneSet emptySet setOf
+P-text = refl

@@ -1,7 +1,7 @@
 -- What the drafts' files hold, computed from their bytes.
 use mathlib.Core.Path.{_≡_, refl}
 use Rattle.automaton.specs.Checks.{holds, numberAt, kindAllowed, lengthAllowed, headValues, symbolValues, allBelow, rowValues, values, recordFound, verdictFrom, verdict}
-use Rattle.elimination.proofs.Drafts.{P, pairs, nested, endless, rowless, finalless, unused}
+use Rattle.claims.proofs.Drafts.{P, pairs, nested, endless, rowless, finalless, unused}
 use Rattle.claims.specs.DraftFiles.{fileP, filePairs, fileNested, fileEndless, fileRowless, fileFinalless, fileUnused}
 
 pub record DraftsHeld : Type 0 where

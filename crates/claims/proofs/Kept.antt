@@ -7,6 +7,7 @@ use Rattle.claims.specs.Kept.{EachKept}
 use Rattle.claims.proofs.KeptTables.{write-kept, sound-kept, make-kept, measure-kept, list-kept}
 use Rattle.claims.proofs.KeptRuns.{productive-kept}
 use Rattle.claims.proofs.KeptConversions.{partly-kept, wholly-kept}
+use Rattle.claims.proofs.Printings.{printed-kept}
 
 pub each-kept : EachKept
 each-kept =
@@ -21,4 +22,5 @@ each-kept =
       list = list-kept;
       convert-partly = partly-kept;
       convert = wholly-kept;
+      printed = printed-kept;
     }

@@ -3,59 +3,42 @@ use Prim.Native.Nat.{ℕ, _*_, _≤_, _<_}
 use native.Mathlib.Omega.{arith}
 use native.Mathlib.Decide.{decLt}
 use mathlib.Core.Path.{_≡_, refl, sym, _∙_, ap, ap₂, subst}
-use mathlib.Core.List.{List, [], _∷_, map}
-use lib.ListN.{length, drop, length-map, length-replicate}
+use mathlib.Core.List.{List}
+use lib.ListN.{length, drop, length-replicate}
 use Rattle.automaton.specs.Held.{Held}
 use Rattle.automaton.specs.Checks.{Verdict, verdict, holds, fault}
+use Rattle.automaton.proofs.Faults.{one-held, one-number, never-both}
 use Rattle.automaton.proofs.Pair.{verdict-valid}
-use Rattle.automaton.proofs.Places.{filled-take}
 use Rattle.expressions.specs.Nodes.{Table}
 use Rattle.expressions.specs.Words.{nodeWidth, wordsOf}
-use Rattle.expressions.proofs.Words.{length-words, table-words}
+use Rattle.expressions.proofs.Words.{length-words}
 use Rattle.elimination.specs.declared.Partly.{Partly}
 use Rattle.elimination.specs.declared.Wholly.{Wholly}
-use Rattle.elimination.specs.Stages.{NodeRow, Stage, Made, stageAfter, converted}
-use Rattle.elimination.specs.Answers.{wholeNodes, writtenTo, allZero, listPlaces, unusedPlace, listRow, listOfRows, refusedPartly, partlyDone, rowOfPlace, stageAnswered, PartlyAnswered, refusedWhole, whollyDone, madeAnswered, WhollyAnswered}
+use Rattle.elimination.specs.Stages.{Stage, Made, stageAfter, converted}
+use Rattle.elimination.specs.Answers.{wholeNodes, writtenTo, allZero, refusedPartly, partlyDone, stageAnswered, PartlyAnswered, refusedWhole, whollyDone, madeAnswered, WhollyAnswered}
 use Rattle.elimination.specs.Theorem.{PartlyConverted, WhollyConverted}
+use Rattle.elimination.proofs.Promises.{answered, answered-made}
 use Rattle.elimination.proofs.Theorem.{partly-ascending, wholly-ascending}
 use Rattle.claims.specs.Kept.{KeptBoth}
 use Rattle.claims.proofs.KeptTables.{over-front}
 
--- a file that holds an automaton has no fault, and holds one thing
-never-both : (file : List ℕ) (held : Held) (number offset : ℕ) → verdict file ≡ holds held → verdict file ≡ fault number offset → ⊥
-never-both file held number offset d e = let z : _≡_ {A = ℕ} 0 1 = cc in omega arith
-
-one-held : (file : List ℕ) (held other : Held) → verdict file ≡ holds held → verdict file ≡ holds other → held ≡ other
-one-held file held other d e = cc
-
-one-number : (file : List ℕ) (number offset other place : ℕ) → verdict file ≡ fault number offset → verdict file ≡ fault other place → number ≡ other
-one-number file number offset other place d e = cc
-
 -- the words are as many as they were
-written-length : (before : List ℕ) (table : Table) → length table ≤ wholeNodes before → length (writtenTo before table) ≡ length before
+pub written-length : (before : List ℕ) (table : Table) → length table ≤ wholeNodes before → length (writtenTo before table) ≡ length before
 unfolding writtenTo wholeNodes
 written-length before table h = over-front (wordsOf table) before (nodeWidth * length table) (length-words table) (omega arith)
 
-zero-length : (before : List ℕ) → length (allZero before) ≡ length before
+pub zero-length : (before : List ℕ) → length (allZero before) ≡ length before
 unfolding allZero
 zero-length before = length-replicate (length before) 0
 
 -- what stands in the words and in the answer is what was made
-rows-back : (table : Table) (rows : List NodeRow) → map rowOfPlace (map (listRow table) rows) ≡ rows
-unfolding listRow
-rows-back table [] = refl
-rows-back table (row ∷ rows) = ap (row ∷_) (rows-back table rows)
-
 stage-back : (before : List ℕ) (stage : Stage) → stageAnswered (writtenTo before (stage .table)) (partlyDone stage) ≡ stage
-unfolding writtenTo stageAnswered partlyDone listOfRows
-stage-back before stage =
-    ap₂ (λ (t : Table) (rows : List NodeRow). record { table = t; rows = rows }) (table-words (stage .table) (drop (nodeWidth * length (stage .table)) before))
-    (ap (map rowOfPlace) (filled-take listPlaces unusedPlace (map (listRow (stage .table)) (stage .rows)) (length (stage .rows)) (sym (length-map (stage .rows) (listRow (stage .table)))))
-    ∙ rows-back (stage .table) (stage .rows))
+unfolding writtenTo
+stage-back before stage = answered stage (drop (nodeWidth * length (stage .table)) before)
 
 made-back : (before : List ℕ) (made : Made) → madeAnswered (writtenTo before (made .table)) (whollyDone made) ≡ made
-unfolding writtenTo madeAnswered whollyDone
-made-back before made = ap (λ (t : Table). record { table = t; node = made .node }) (table-words (made .table) (drop (nodeWidth * length (made .table)) before))
+unfolding writtenTo
+made-back before made = answered-made made (drop (nodeWidth * length (made .table)) before)
 
 -- what holds of the automaton that the file holds, holds of every one that it is said to hold
 module _ (file : List ℕ) (held : Held) (e : verdict file ≡ holds held) where

@@ -19,8 +19,8 @@ use Rattle.trees.specs.Runs.{Productive, ProductiveSet}
 use Rattle.trees.specs.Promises.{noStates, ProductivePromise}
 use Rattle.trees.proofs.Producing.{Closed, productive-in, productive-closed, grows}
 use Rattle.trees.proofs.Promised.{productive-fault, productive-held}
-use Rattle.expressions.proofs.Lists.{all-map}
-use Rattle.elimination.proofs.Lists.{of-all}
+use Rattle.trees.proofs.Lists.{all-map}
+use Rattle.trees.proofs.Lists.{of-all}
 use Rattle.claims.specs.Kept.{Kept}
 
 -- a row that adds something to a set, or none does

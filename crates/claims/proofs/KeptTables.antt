@@ -26,7 +26,7 @@ use Rattle.expressions.specs.Answers.{SoundAnswer, measured, Measures, listed, 
 use Rattle.expressions.proofs.Words.{length-encode, length-table}
 use Rattle.expressions.proofs.Written.{length-sizes}
 use Rattle.expressions.proofs.Decidable.{dec-fits, dec-room, dec-sound}
-use Rattle.expressions.proofs.Deciding.{decides-yes, decides-no}
+use Rattle.automaton.proofs.Deciding.{decides-yes, decides-no}
 use Rattle.claims.specs.Kept.{Kept, KeptBoth}
 
 -- what stands first, and then the rest of the buffer

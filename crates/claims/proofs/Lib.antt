@@ -8,7 +8,9 @@ pub mod Uniqueness
 pub mod KeptTables
 pub mod KeptRuns
 pub mod KeptConversions
+pub mod Printings
 pub mod Kept
+pub mod Drafts
 pub mod DraftsHeld
 pub mod DraftRuns
 pub mod DraftTables

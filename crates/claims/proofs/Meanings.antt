@@ -26,7 +26,7 @@ use Rattle.expressions.specs.Nodes.{Shape, Table, nodeAt, places, symbolOf, chi
 use Rattle.expressions.specs.Words.{tableOf}
 use Rattle.expressions.specs.Unfolding.{exprsOf, builtOf, built, exprAt}
 use Rattle.expressions.specs.Soundness.{Labelled, SoundNodes, Sound}
-use Rattle.expressions.proofs.Lists.{all-map}
+use Rattle.trees.proofs.Lists.{all-map}
 use Rattle.expressions.proofs.Words.{length-table}
 use Rattle.expressions.proofs.Unfolding.{expr-at, expr-take, built-same}
 use Rattle.claims.specs.Meanings.{NodeDenotes, OneFromEach, NodeMeans, MeansWhatItShould}

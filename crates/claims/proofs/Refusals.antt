@@ -35,9 +35,13 @@ use Rattle.elimination.specs.declared.Partly.{Partly}
 use Rattle.elimination.specs.declared.Wholly.{Wholly}
 use Rattle.elimination.specs.Stages.{stageAfter, converted}
 use Rattle.elimination.specs.Answers.{wholeNodes, allZero, unusedPlace, refusedPartly, partlyDone, PartlyAnswered, refusedWhole, whollyDone, WhollyAnswered}
-use Rattle.elimination.proofs.Lists.{of-all}
-use Rattle.claims.specs.Refusals.{FileRefused, WriteRefused, no-file, buffer-short, RunRefused, run-file, no-tree, MakeRefused, no-such-node, no-room, MeasureRefused, measure-unsound, scratch-short, ListRefused, list-unsound, bytes-short, PartlyRefused, partly-file, too-far, partly-short, WhollyRefused, wholly-file, wholly-short, Refuses, fileNumbers, WordsLeft, RefusesExactly}
-use Rattle.claims.proofs.Faults.{fault-number}
+use Rattle.trees.proofs.Lists.{of-all}
+use Rattle.front.specs.declared.Printing.{Printing}
+use Rattle.front.specs.Text.{printedText}
+use Rattle.front.specs.Answers.{nodesMade, TooShort, Prints}
+use Rattle.front.proofs.Outcomes.{short-nodes, short-bytes, room-both, made-holds, made-fault}
+use Rattle.claims.specs.Refusals.{FileRefused, WriteRefused, no-file, buffer-short, RunRefused, run-file, no-tree, MakeRefused, no-such-node, no-room, MeasureRefused, measure-unsound, scratch-short, ListRefused, list-unsound, bytes-short, PartlyRefused, partly-file, too-far, partly-short, WhollyRefused, wholly-file, wholly-short, Refuses, fileNumbers, WordsLeft, RefusesExactly, PrintRefused, print-nodes, print-bytes}
+use Rattle.claims.proofs.Faults.{fault-listed}
 
 -- ---- one law for every entry: each condition gives its number; and either the number is 0, or it is the number of a condition that holds, and all is left as it should be
 
@@ -67,7 +71,7 @@ module _ (numbers : List ℕ) (some : All (λ n. 1 ≤ n) numbers) (Refused : �
 -- ---- files
 
 in-file : (file : List ℕ) (n : ℕ) → FileRefused file n → List·Memᴰ n fileNumbers
-in-file file n x = fault-number file n (x .0) (x .1)
+in-file file n x = fault-listed file n (x .0) (x .1)
 
 read-refuses : (file : List ℕ) (r : Reading) → r ≡ readAnswer file → Refuses fileNumbers (FileRefused file) (r .refusal .number) (r .automaton ≡ noAutomaton)
 unfolding readAnswer readingOf
@@ -295,6 +299,42 @@ wholly-refuses file before after r p = refuses (6 ∷ fileNumbers) (omega arith)
         let c = p .faulty n offset e in
         inr (rw (number (c .0)) (wholly-file (offset, e)), left (c .0) (words-same _ before after (λ z. not-six file n (offset, e) (sym (number (c .0)) ∙ z)) (c .1)))
 
+-- ---- what is printed
+
+print-refuses : (file nodes after out bytes : List ℕ) (r : Printing) → Prints file nodes after out bytes r
+    → Refuses (6 ∷ []) (PrintRefused file nodes out) (r .refusal .number) ((r .length ≡ 0) × (after ≡ replicate (length nodes) 0) × (bytes ≡ out))
+unfolding allZero
+print-refuses file nodes after out bytes r p = refuses (6 ∷ []) (omega arith) (PrintRefused file nodes out) _ _ among gives (go (verdict file) refl)
+  where
+    Left : Type 0
+    Left = (r .length ≡ 0) × (after ≡ replicate (length nodes) 0) × (bytes ≡ out)
+
+    among : (n : ℕ) → PrintRefused file nodes out n → List·Memᴰ n (6 ∷ [])
+    among n (print-nodes held e l) = List·Memᴰ·head refl
+    among n (print-bytes l) = List·Memᴰ·head refl
+
+    six : TooShort file nodes out → r .refusal .number ≡ 6
+    six t = ap (λ (a : Printing). a .refusal .number) (p .short t .0)
+
+    gives : (n : ℕ) → PrintRefused file nodes out n → r .refusal .number ≡ n
+    gives n (print-nodes held e l) = six (short-nodes file nodes out (rw (made-holds file held e) l))
+    gives n (print-bytes l) = six (short-bytes file nodes out l)
+
+    short : TooShort file nodes out → PrintRefused file nodes out 6 → (r .refusal .number ≡ 0) ⊎ (PrintRefused file nodes out (r .refusal .number) × Left)
+    short t x = let c = p .short t in inr (rw (six t) x, (ap (λ (a : Printing). a .length) (c .0), c .1 .0, c .1 .1))
+
+    bytes-room : nodesMade (verdict file) ≤ wholeNodes nodes → Dec (length out < length (printedText file)) → (r .refusal .number ≡ 0) ⊎ (PrintRefused file nodes out (r .refusal .number) × Left)
+    bytes-room h (yes l) = short (short-bytes file nodes out l) (print-bytes l)
+    bytes-room h (no l) = inl (ap (λ (a : Printing). a .refusal .number) (p .done (room-both file nodes out h (omega arith)) .0))
+
+    nodes-room : (held : Held) → verdict file ≡ holds held → Dec (wholeNodes nodes < length (converted held .table)) → (r .refusal .number ≡ 0) ⊎ (PrintRefused file nodes out (r .refusal .number) × Left)
+    nodes-room held e (yes l) = short (short-nodes file nodes out (rw (made-holds file held e) l)) (print-nodes held e l)
+    nodes-room held e (no l) = bytes-room (omega (arith, made-holds file held e)) (decLt (length out) (length (printedText file)))
+
+    go : (v : Verdict) → verdict file ≡ v → (r .refusal .number ≡ 0) ⊎ (PrintRefused file nodes out (r .refusal .number) × Left)
+    go (holds held) e = nodes-room held e (decLt (wholeNodes nodes) (length (converted held .table)))
+    go (fault n offset) e = bytes-room (omega (arith, made-fault file n offset e)) (decLt (length out) (length (printedText file)))
+
 pub refuses-exactly : RefusesExactly
 refuses-exactly =
     record {
@@ -308,4 +348,5 @@ refuses-exactly =
       list = list-refuses;
       convert-partly = partly-refuses;
       convert = wholly-refuses;
+      printed = print-refuses;
     }

@@ -15,10 +15,9 @@ use Rattle.elimination.specs.declared.Partly.{Partly}
 use Rattle.elimination.specs.declared.Wholly.{Wholly}
 use Rattle.elimination.specs.Stages.{stageAfter}
 use Rattle.elimination.specs.Answers.{partlyDone, PartlyAnswered, WhollyAnswered}
-use Rattle.elimination.proofs.Drafts.{P, numbers}
+use Rattle.claims.proofs.Drafts.{P, numbers}
 use Rattle.claims.specs.DraftFiles.{fileP}
 use Rattle.claims.specs.WorkedDrafts.{whole, wordsP}
-use Rattle.claims.specs.ComputedFiles.{heldP}
 use Rattle.claims.specs.Shams.{NoSham}
 use Rattle.claims.proofs.DraftsHeld.{drafts-held}
 use Rattle.claims.proofs.WorkedDrafts.{room, P-sound as P-is-sound, worked-drafts}
@@ -35,14 +34,12 @@ part-count k nodes near few n before after r h x =
     ap (λ (a : Partly). a .nodes) (x .done P (drafts-held .P-held) near (rw n (room nodes before (omega arith))) .0) ∙ n
 
 after-0 : length (stageAfter 0 P .table) ≡ 6
-unfolding heldP
 after-0 = stage-cases .P-start .0
 
 after-1 : length (stageAfter 1 P .table) ≡ 8
 after-1 = numbers .P-one-nodes
 
 after-2 : length (stageAfter 2 P .table) ≡ 10
-unfolding heldP
 after-2 = stage-cases .P-both .0
 
 -- a full conversion of P in 60 words, all of them 0

@@ -7,6 +7,7 @@ use Rattle.trees.proofs.Answers.{run-unique, productive-unique}
 use Rattle.expressions.specs.Nodes.{shapeOf}
 use Rattle.expressions.proofs.Once.{sound-once, make-once, measure-once, list-once}
 use Rattle.elimination.proofs.Outcomes.{partly-once, wholly-once}
+use Rattle.front.proofs.Outcomes.{prints-once}
 use Rattle.claims.specs.Uniqueness.{Once, EachOnce}
 
 -- two sets that are one number are one set
@@ -35,4 +36,5 @@ each-once =
       list = list-once;
       convert-partly = partly-once;
       convert = wholly-once;
+      printed = prints-once;
     }

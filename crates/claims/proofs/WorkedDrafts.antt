@@ -22,13 +22,17 @@ use Rattle.elimination.specs.declared.Wholly.{Wholly}
 use Rattle.elimination.specs.Stages.{converted, boundOf}
 use Rattle.elimination.specs.Answers.{wholeNodes, writtenTo, allZero, refusedPartly, PartlyAnswered, refusedWhole, whollyDone, WhollyAnswered}
 use Rattle.elimination.proofs.Outcomes.{wholly-sound}
-use Rattle.elimination.proofs.Drafts.{P, pairs, nested, endless, rowless, finalless, unused, numbers, AnswerDenotes, Leaf, pairs-denotes, nested-denotes, endless-denotes, unused-denotes}
+use Rattle.front.specs.declared.Printing.{Printing}
+use Rattle.front.specs.Text.{printedText}
+use Rattle.front.specs.Answers.{printing, Prints}
+use Rattle.front.proofs.Outcomes.{text-holds, made-holds, room-both}
+use Rattle.claims.proofs.Drafts.{P, pairs, nested, endless, rowless, finalless, unused, numbers, AnswerDenotes, Leaf, pairs-denotes, nested-denotes, endless-denotes, unused-denotes}
 use Rattle.claims.specs.DraftFiles.{fileP, filePairs, fileNested, fileEndless, fileRowless, fileFinalless, fileUnused}
 use Rattle.claims.specs.WorkedDrafts.{whole, part, place, Gives, DenotesTree, DenotesJust, leaf, over, pair, wordsP, sizesP, listingP, WorkedDrafts}
 use Rattle.claims.proofs.Done.{whole-room}
 use Rattle.claims.proofs.DraftsHeld.{drafts-held}
 use Rattle.claims.proofs.DraftRuns.{P-100, P-11000, P-10100, P-0, P-10, P-00, P-none}
-use Rattle.claims.proofs.DraftTables.{P-size, P-sizes, P-listing, listing-length, P-one-done, P-one-words}
+use Rattle.claims.proofs.DraftTables.{P-size, P-sizes, P-listing, listing-length, P-text, P-one-done, P-one-words}
 
 -- room for so many nodes
 pub room : (n : ℕ) (words : List ℕ) → 6 * n ≤ length words → n ≤ wholeNodes words
@@ -127,6 +131,16 @@ P-listed before after out bytes r l h x k y =
     let z = y′ .done sound (rw long k) in
     (z .0 ∙ ap (listed 0) long, z .1 ∙ ap₂ (λ (b : List ℕ) (n : ℕ). b ++ drop n out) same long)
 
+P-printed : (nodes after out bytes : List ℕ) (r : Printing) → 60 ≤ length nodes → 123 ≤ length out → Prints fileP nodes after out bytes r
+    → (r ≡ printing 0 123) × (bytes ≡ listingP ++ drop 123 out)
+P-printed nodes after out bytes r h k x =
+    let e = drafts-held .P-held in
+    let text : printedText fileP ≡ listingP = text-holds fileP P e ∙ P-text in
+    let long : length (printedText fileP) ≡ 123 = ap length text ∙ listing-length in
+    let fits = room 10 nodes h in
+    let d = x .done (room-both fileP nodes out (omega (arith, made-holds fileP P e, numbers .P-gives .1)) (omega arith)) in
+    (d .0 ∙ ap (printing 0) long, d .1 .1 ∙ ap₂ (λ (b : List ℕ) (n : ℕ). b ++ drop n out) text long)
+
 -- ---- P for some steps
 
 P-one-step : (before after : List ℕ) (r : Partly) → 48 ≤ length before → PartlyAnswered fileP 1 before after r
@@ -153,6 +167,7 @@ worked-drafts =
       P-in-60 = P-in-60;
       P-size = P-measured;
       P-listing = P-listed;
+      P-printed = P-printed;
       P-bound = P-bound;
       P-one-step = P-one-step;
       P-in-59 = P-in-59;

@@ -3,6 +3,7 @@ use Rattle.claims.specs.Refusals.{RefusesExactly}
 use Rattle.claims.specs.Meanings.{MeansWhatItShould}
 use Rattle.claims.specs.Slips.{NoSlip}
 use Rattle.claims.specs.Conversions.{ConvertsFaithfully}
+use Rattle.claims.specs.Printings.{PrintsFaithfully}
 use Rattle.claims.specs.Uniqueness.{EachOnce}
 use Rattle.claims.specs.Kept.{EachKept}
 use Rattle.claims.specs.Shams.{NoSham}
@@ -17,6 +18,8 @@ pub record Claims : Type 0 where
   pub no-slip : NoSlip
   -- the third demand: a conversion, at every stop and at the end
   pub converts-faithfully : ConvertsFaithfully
+  -- what the program prints
+  pub prints-faithfully : PrintsFaithfully
   -- each promise has one outcome
   pub each-once : EachOnce
   pub each-kept : EachKept

@@ -39,7 +39,7 @@ times (suc n) bytes = bytes ++ times n bytes
 abbrev pub rule : ℕ → ℕ → List ℕ → Rule
 rule symbol target sources = record { symbol = symbol; target = target; sources = sources }
 
-unfoldable pub heldP : Held
+abbrev pub heldP : Held
 heldP = record { states = 2; finals = 2; arities = 0 ∷ 2 ∷ []; rules = rule 0 0 [] ∷ rule 1 1 (0 ∷ 0 ∷ []) ∷ rule 1 1 (1 ∷ 0 ∷ []) ∷ [] }
 
 abbrev pub row : ℕ → ℕ → List ℕ → Row

@@ -20,6 +20,8 @@ use Rattle.expressions.specs.Answers.{SoundAnswer, Measures, Lists}
 use Rattle.elimination.specs.declared.Partly.{Partly}
 use Rattle.elimination.specs.declared.Wholly.{Wholly}
 use Rattle.elimination.specs.Answers.{PartlyAnswered, WhollyAnswered}
+use Rattle.front.specs.declared.Printing.{Printing}
+use Rattle.front.specs.Answers.{Prints}
 
 -- some answer keeps the promise
 abbrev pub Kept : {A : Type 0} → (A → Type 0) → Type 0
@@ -28,6 +30,10 @@ Kept {A} Promise = (r : A) × Promise r
 -- some answer and some content of the lent buffer keep it
 abbrev pub KeptBoth : {A : Type 0} → List ℕ → (List ℕ → A → Type 0) → Type 0
 KeptBoth {A} before Promise = (after : List ℕ) × (r : A) × Promise after r × (length after ≡ length before)
+
+-- some answer and some contents of two lent buffers keep it
+abbrev pub KeptAll : {A : Type 0} → List ℕ → List ℕ → (List ℕ → List ℕ → A → Type 0) → Type 0
+KeptAll {A} nodes out Promise = (after bytes : List ℕ) × (r : A) × Promise after bytes r × (length after ≡ length nodes) × (length bytes ≡ length out)
 
 pub record EachKept : Type 0 where
   pub read : (file : List ℕ) → Kept {A = Reading} (λ r. r ≡ readAnswer file)
@@ -41,3 +47,4 @@ pub record EachKept : Type 0 where
   pub list : (words : List ℕ) (count answer : ℕ) (before : List ℕ) → KeptBoth {A = Listed} before (λ after r. Lists words count answer before after r)
   pub convert-partly : (file : List ℕ) (k : ℕ) (before : List ℕ) → KeptBoth {A = Partly} before (λ after r. PartlyAnswered file k before after r)
   pub convert : (file before : List ℕ) → KeptBoth {A = Wholly} before (λ after r. WhollyAnswered file before after r)
+  pub printed : (file nodes out : List ℕ) → KeptAll {A = Printing} nodes out (λ after bytes r. Prints file nodes after out bytes r)

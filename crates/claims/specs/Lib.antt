@@ -2,6 +2,7 @@ pub mod Refusals
 pub mod Meanings
 pub mod Slips
 pub mod Conversions
+pub mod Printings
 pub mod Uniqueness
 pub mod Kept
 pub mod DraftFiles

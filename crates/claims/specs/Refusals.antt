@@ -28,6 +28,9 @@ use Rattle.elimination.specs.declared.Partly.{Partly}
 use Rattle.elimination.specs.declared.Wholly.{Wholly}
 use Rattle.elimination.specs.Stages.{stageAfter, converted}
 use Rattle.elimination.specs.Answers.{wholeNodes, unusedPlace, PartlyAnswered, WhollyAnswered}
+use Rattle.front.specs.declared.Printing.{Printing}
+use Rattle.front.specs.Text.{printedText}
+use Rattle.front.specs.Answers.{Prints}
 
 -- ---- what each entry refuses: a line for each number, in the order "file or value (1 to 5), then 9, 7 or 8, then 6"
 
@@ -72,6 +75,12 @@ pub data PartlyRefused (file : List ℕ) (k : ℕ) (words : List ℕ) : ℕ → 
 pub data WhollyRefused (file words : List ℕ) : ℕ → Type 0 where
   wholly-file : {number : ℕ} → FileRefused file number → WhollyRefused file words number
   wholly-short : (held : Held) → verdict file ≡ holds held → wholeNodes words < length (converted held .table) → WhollyRefused file words 6
+
+pub data PrintRefused (file nodes out : List ℕ) : ℕ → Type 0 where
+  -- "the nodes so made outnumber the whole nodes that fit the lent words"
+  print-nodes : (held : Held) → verdict file ≡ holds held → wholeNodes nodes < length (converted held .table) → PrintRefused file nodes out 6
+  -- the text, "refused N" too, is longer than the lent bytes
+  print-bytes : length out < length (printedText file) → PrintRefused file nodes out 6
 
 -- ---- a refusal given exactly then
 
@@ -118,3 +127,7 @@ pub record RefusesExactly : Type 0 where
   pub convert : (file before after : List ℕ) (r : Wholly) → WhollyAnswered file before after r
       → Refuses (6 ∷ fileNumbers) (WhollyRefused file before) (r .refusal .number)
       ((r .nodes ≡ 0) × (r .answer ≡ 0) × WordsLeft (r .refusal .number) before after)
+  -- a file's refusal stands in the text: 6 is the only number
+  pub printed : (file nodes after out bytes : List ℕ) (r : Printing) → Prints file nodes after out bytes r
+      → Refuses (6 ∷ []) (PrintRefused file nodes out) (r .refusal .number)
+      ((r .length ≡ 0) × (after ≡ replicate (length nodes) 0) × (bytes ≡ out))

@@ -21,6 +21,8 @@ use Rattle.expressions.specs.Answers.{SoundAnswer, Measures, Lists}
 use Rattle.elimination.specs.declared.Partly.{Partly}
 use Rattle.elimination.specs.declared.Wholly.{Wholly}
 use Rattle.elimination.specs.Answers.{PartlyAnswered, WhollyAnswered}
+use Rattle.front.specs.declared.Printing.{Printing}
+use Rattle.front.specs.Answers.{Prints}
 
 -- a promise on an answer alone has one outcome
 abbrev pub Once : {A : Type 0} → (A → Type 0) → Type 0
@@ -30,6 +32,11 @@ Once {A} Promise = (r s : A) → Promise r → Promise s → r ≡ s
 abbrev pub OnceBoth : {A : Type 0} → (List ℕ → A → Type 0) → Type 0
 OnceBoth {A} Promise = (after other : List ℕ) (r s : A) → Promise after r → Promise other s → (r ≡ s) × (after ≡ other)
 
+-- a promise on two lent buffers and an answer has one outcome, in all three
+abbrev pub OnceAll : {A : Type 0} → (List ℕ → List ℕ → A → Type 0) → Type 0
+OnceAll {A} Promise = (after other bytes others : List ℕ) (r s : A) → Promise after bytes r → Promise other others s → (r ≡ s) × ((after ≡ other) × (bytes ≡ others))
+
+-- The doors of the crate `trial` cite the very promises of the functions behind them, so that what stands here is said of the doors too.
 pub record EachOnce : Type 0 where
   -- `StateSet`: `empty`, `one`, `union`, `has`, `without`, `count`
   pub set-empty : Once {A = StateSet} (λ r. r .0 ≡ emptySet stateWidth)
@@ -53,3 +60,5 @@ pub record EachOnce : Type 0 where
   -- `convert_partly`, `convert`
   pub convert-partly : (file : List ℕ) (k : ℕ) (before : List ℕ) → OnceBoth {A = Partly} (λ after r. PartlyAnswered file k before after r)
   pub convert : (file before : List ℕ) → OnceBoth {A = Wholly} (λ after r. WhollyAnswered file before after r)
+  -- `printed`
+  pub printed : (file nodes out : List ℕ) → OnceAll {A = Printing} (λ after bytes r. Prints file nodes after out bytes r)

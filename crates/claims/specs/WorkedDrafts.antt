@@ -22,6 +22,8 @@ use Rattle.elimination.specs.declared.Partly.{Partly}
 use Rattle.elimination.specs.declared.Wholly.{Wholly}
 use Rattle.elimination.specs.Stages.{boundOf}
 use Rattle.elimination.specs.Answers.{PartlyAnswered, WhollyAnswered}
+use Rattle.front.specs.declared.Printing.{Printing}
+use Rattle.front.specs.Answers.{printing, Prints}
 use Rattle.claims.specs.DraftFiles.{fileP, filePairs, fileNested, fileEndless, fileRowless, fileFinalless, fileUnused}
 
 -- ---- answers, spelled out
@@ -131,6 +133,9 @@ pub record WorkedDrafts : Type 0 where
   pub P-listing : (before after out bytes : List ℕ) (r : Wholly) (l : Listed) → 60 ≤ length before → WhollyAnswered fileP before after r
       → 123 ≤ length out → Lists after (r .nodes) (r .answer) out bytes l
       → (l ≡ listed 0 123) × (bytes ≡ listingP ++ drop 123 out)
+  -- and printed from P's bytes
+  pub P-printed : (nodes after out bytes : List ℕ) (r : Printing) → 60 ≤ length nodes → 123 ≤ length out → Prints fileP nodes after out bytes r
+      → (r ≡ printing 0 123) × (bytes ≡ listingP ++ drop 123 out)
   -- "Bound 17."
   pub P-bound : (held : Held) → verdict fileP ≡ holds held → boundOf held ≡ 17
   -- "After 1 step: 8 nodes, rows 6 to 1, 7 to 1, 2 to 16, waiting for 0, 1, 1 states."

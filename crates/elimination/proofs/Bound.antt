@@ -13,11 +13,11 @@ use Rattle.sets.proofs.Bits.{has-high}
 use Rattle.automaton.specs.Held.{Rule, Held, All, Valid}
 use Rattle.expressions.specs.Nodes.{Table}
 use Rattle.expressions.specs.Soundness.{SoundNodes}
-use Rattle.elimination.specs.Making.{isEmpty}
-use Rattle.elimination.specs.RowLists.{those, ascending, Distinct, finalTarget, finalStates}
+use Rattle.elimination.proofs.OnExpressions.{isEmpty}
+use Rattle.elimination.specs.RowLists.{those, ascending, finalTarget, finalStates}
 use Rattle.elimination.specs.Stages.{NodeRow, Stage, unfoldedRow, holesTable, ruleShape, rulesTable, startTable, ruleRows, finalNodeRow, start, withNode, isEmptyNode, nodes, standInMade, replacedMade, replacedRows, remainsNode, eliminatedStage, eliminatedStages, joinStage, nodeBound, boundOf}
-use Rattle.expressions.proofs.Lists.{all-map}
-use Rattle.elimination.proofs.Lists.{those-length, those-append, to-all, ascending-length, distinct-few}
+use Rattle.trees.proofs.Lists.{all-map}
+use Rattle.elimination.proofs.Lists.{Distinct, those-length, those-append, to-all, ascending-length, distinct-few}
 use Rattle.elimination.proofs.Whole.{aimed-last}
 use Rattle.elimination.proofs.Fitting.{empty-node}
 use Rattle.elimination.proofs.Mirror.{Begins, begins-grown}

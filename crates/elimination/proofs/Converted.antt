@@ -10,16 +10,16 @@ use Rattle.sets.specs.Members.{has, size, stateWidth}
 use Rattle.automaton.specs.Held.{Held, All, Valid}
 use Rattle.trees.specs.Trees.{Tree}
 use Rattle.trees.specs.Runs.{Accepted}
-use Rattle.expressions.specs.Expressions.{Denotes, openSet}
+use Rattle.expressions.specs.Expressions.{Denotes}
 use Rattle.expressions.specs.Nodes.{Table, nodeAt}
 use Rattle.expressions.specs.Unfolding.{exprAt}
 use Rattle.expressions.specs.Soundness.{SoundNodes}
-use Rattle.expressions.proofs.OpenSets.{open-of, open-word}
+use Rattle.expressions.proofs.OpenSets.{openSet, open-of, open-word}
 use Rattle.elimination.specs.RowLists.{finalTarget, finalStates}
-use Rattle.elimination.specs.OnExpressions.{ruleRow, finalRow, startRows, eliminatedAll, answerOf}
+use Rattle.elimination.proofs.OnExpressions.{ruleRow, finalRow, startRows, eliminatedAll, answerOf}
 use Rattle.elimination.specs.Acceptance.{Accepts}
 use Rattle.elimination.specs.Stages.{NodeRow, unfoldedRow, unfoldedRows, start, eliminatedStages, joinStage, waitsFor}
-use Rattle.elimination.proofs.Lists.{of-all}
+use Rattle.trees.proofs.Lists.{of-all}
 use Rattle.elimination.proofs.Whole.{list-accepts, rows-left, gone-not-open, no-more-rows, answer-denotes}
 use Rattle.elimination.proofs.Mirror.{Mirrors, Begins, begins-grown}
 use Rattle.elimination.proofs.MirrorRows.{LowRows, MirrorsRows, steps-mirror, joinStage-mirrors}

@@ -12,7 +12,7 @@ use Rattle.expressions.specs.Nodes.{Table, nodeAt, emptyShape, holeShape, altSh
 use Rattle.expressions.specs.Unfolding.{builtOf, built, exprAt}
 use Rattle.expressions.specs.Soundness.{Labelled, Fits, SoundNodes}
 use Rattle.expressions.proofs.Soundness.{fits-at, expr-shape}
-use Rattle.elimination.specs.Making.{isEmpty, isHole}
+use Rattle.elimination.proofs.OnExpressions.{isEmpty, isHole}
 use Rattle.elimination.specs.Stages.{holeAt, ruleShape, isEmptyNode, isHoleNode}
 
 -- ---- shapes that fit

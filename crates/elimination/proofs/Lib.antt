@@ -1,4 +1,5 @@
 pub mod Lists
+pub mod OnExpressions
 pub mod Levels
 pub mod OneState
 pub mod Making
@@ -16,7 +17,6 @@ pub mod Bound
 pub mod Theorem
 pub mod OnWords
 pub mod Turns
-pub mod Drafts
 pub mod Holding
 pub mod RowList
 pub mod Composing
@@ -24,7 +24,6 @@ pub mod JoinLoop
 pub mod ReplaceLoop
 pub mod StandIn
 pub mod StepLoop
-pub mod Files
 pub mod StartLoops
 pub mod Conversion
 pub mod Promises

@@ -10,14 +10,11 @@ use lib.ListN.{length, length-append}
 use lib.Dec.{T, eqb, T-not}
 use borrow.Author.Tests.{ne-eqb, eqb-true, eq-eqb}
 use Rattle.automaton.specs.Held.{All}
+use Rattle.trees.proofs.Lists.{of-all}
 use Rattle.expressions.proofs.Tests.{of-true}
-use Rattle.elimination.specs.RowLists.{those, ascending, Distinct}
+use Rattle.elimination.specs.RowLists.{those, ascending}
 
--- what holds of all holds of each member, and back
-pub of-all : {A : Type 0} (P : A → Type 0) {x : A} (xs : List A) → All P xs → List·Memᴰ x xs → P x
-of-all P (y ∷ ys) a (List·Memᴰ·head e) = rw e (a .0)
-of-all P (y ∷ ys) a (List·Memᴰ·tail m) = of-all P ys (a .1) m
-
+-- what holds of each member holds of all
 pub to-all : {A : Type 0} (P : A → Type 0) (xs : List A) → ((x : A) → List·Memᴰ x xs → P x) → All P xs
 to-all P [] h = tt
 to-all P (x ∷ xs) h = (h x (List·Memᴰ·head refl), to-all P xs (λ y m. h y (List·Memᴰ·tail m)))
@@ -62,6 +59,12 @@ module _ {A : Type 0} (test : A → Bool) where
       go : (b : Bool) → length (those test xs) ≤ length xs → length (cond b (x ∷ those test xs) (those test xs)) ≤ length (x ∷ xs)
       go true h = omega arith
       go false h = omega arith
+
+-- ---- no state twice
+
+abbrev pub Distinct : List ℕ → Type 0
+Distinct [] = Unit {0}
+Distinct (q ∷ qs) = (List·Memᴰ q qs → ⊥) × Distinct qs
 
 -- ---- the states ascending
 
@@ -114,10 +117,6 @@ those-all P test (x ∷ xs) a = go (test x) (those-all P test xs (a .1))
 pub all-append : {A : Type 0} (P : A → Type 0) (xs ys : List A) → All P xs → All P ys → All P (xs ++ ys)
 all-append P [] ys a b = b
 all-append P (x ∷ xs) ys a b = (a .0, all-append P xs ys (a .1) b)
-
-pub map-append : {A B : Type 0} (f : A → B) (xs ys : List A) → map f (xs ++ ys) ≡ map f xs ++ map f ys
-map-append f [] ys = refl
-map-append f (x ∷ xs) ys = ap (f x ∷_) (map-append f xs ys)
 
 pub those-append : {A : Type 0} (test : A → Bool) (xs ys : List A) → those test (xs ++ ys) ≡ those test xs ++ those test ys
 unfolding those

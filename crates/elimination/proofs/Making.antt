@@ -10,7 +10,7 @@ use Rattle.expressions.specs.Fillings.{at}
 use Rattle.expressions.specs.Expressions.{Expr, emptyᴱ, holeᴱ, symbolᴱ, altᴱ, catᴱ, iterᴱ, Concatenated, Iterated, Denotes, isOpen}
 use Rattle.expressions.proofs.Tests.{of-true, not-of-false, or-cases, and-cases, eq-test}
 use Rattle.expressions.proofs.Meaning.{concatenated-hole, level-nothing}
-use Rattle.elimination.specs.Making.{isEmpty, isHole, makeAlt, makeCat, makeIter, joinedFrom, joined}
+use Rattle.elimination.proofs.OnExpressions.{isEmpty, isHole, makeAlt, makeCat, makeIter, joinedFrom, joined}
 
 empty-is : (a : Expr) → T (isEmpty a) → a ≡ emptyᴱ
 unfolding isEmpty

@@ -10,10 +10,10 @@ use Rattle.expressions.specs.Expressions.{Expr, emptyᴱ, holeᴱ, altᴱ, cat�
 use Rattle.expressions.specs.Nodes.{Shape, Table, altShape, catShape, iterShape}
 use Rattle.expressions.specs.Unfolding.{built, exprAt}
 use Rattle.expressions.specs.Soundness.{Fits, completed, SoundNodes}
-use Rattle.expressions.proofs.Lists.{all-map}
+use Rattle.trees.proofs.Lists.{all-map}
 use Rattle.expressions.proofs.Unfolding.{built-alt, built-cat, built-iter}
 use Rattle.expressions.proofs.Soundness.{sound-made, expr-made}
-use Rattle.elimination.specs.Making.{isEmpty, isHole, makeAlt, makeCat, makeIter, joinedFrom, joined}
+use Rattle.elimination.proofs.OnExpressions.{isEmpty, isHole, makeAlt, makeCat, makeIter, joinedFrom, joined}
 use Rattle.elimination.specs.Stages.{holeAt, Made, already, added, altMade, catMade, iterMade, joinMadeFrom, joinMade}
 use Rattle.elimination.proofs.Grows.{Grown, grown-none, grown-then, grown-longer, grown-expr, with-grows}
 use Rattle.elimination.proofs.Fitting.{alt-fits, cat-fits, iter-fits, empty-node, hole-node}

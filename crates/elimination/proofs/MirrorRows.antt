@@ -11,11 +11,11 @@ use Rattle.expressions.specs.Expressions.{Expr, isOpen}
 use Rattle.expressions.specs.Nodes.{Table}
 use Rattle.expressions.specs.Unfolding.{exprAt}
 use Rattle.expressions.specs.Soundness.{SoundNodes}
-use Rattle.expressions.proofs.Lists.{all-map}
+use Rattle.trees.proofs.Lists.{all-map}
 use Rattle.expressions.proofs.OpenSets.{open-of}
-use Rattle.elimination.specs.Making.{makeCat, makeIter, joined}
+use Rattle.elimination.proofs.OnExpressions.{makeCat, makeIter, joined}
 use Rattle.elimination.specs.RowLists.{Row, those}
-use Rattle.elimination.specs.OnExpressions.{looping, incoming, outgoing, exprs, standIn, replaced, remains, eliminated, eliminatedAll, answerOf}
+use Rattle.elimination.proofs.OnExpressions.{looping, incoming, outgoing, exprs, standIn, replaced, remains, eliminated, eliminatedAll, answerOf}
 use Rattle.elimination.specs.Stages.{NodeRow, Stage, unfoldedRow, already, catMade, iterMade, joinMade, isOpenRow, loopingNode, incomingNode, outgoingNode, nodes, standInMade, replacedMade, replacedRows, remainsNode, eliminatedStage, eliminatedStages, joinStage}
 use Rattle.elimination.proofs.Grows.{Grown, grown-none, grown-then, grown-longer, grown-expr}
 use Rattle.elimination.proofs.Lists.{those-map, those-all}

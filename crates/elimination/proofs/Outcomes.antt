@@ -2,11 +2,12 @@
 use Prim.Native.Nat.{ℕ, _*_, _<_, _≤_}
 use native.Mathlib.Omega.{arith}
 use native.Mathlib.Decide.{decLt}
-use mathlib.Core.Path.{_≡_, refl, sym, _∙_, ap, subst}
+use mathlib.Core.Path.{_≡_, refl, sym, ap, subst}
 use mathlib.Core.List.{List}
 use lib.ListN.{length, drop}
 use Rattle.automaton.specs.Held.{Held}
 use Rattle.automaton.specs.Checks.{Verdict, holds, fault, verdict}
+use Rattle.automaton.proofs.Laws.{alike}
 use Rattle.automaton.proofs.Pair.{verdict-valid}
 use Rattle.expressions.specs.Soundness.{Sound}
 use Rattle.expressions.specs.Words.{nodeWidth}
@@ -17,10 +18,6 @@ use Rattle.elimination.specs.Answers.{wholeNodes, writtenTo, partlyDone,
 use Rattle.elimination.proofs.Theorem.{partly-ascending, wholly-ascending}
 use Rattle.elimination.proofs.OnWords.{made-words-sound}
 
--- two that are the same third are the same
-same : {A B : Type 0} {a b c : A} {x y z : B} → (a ≡ c) × (x ≡ z) → (b ≡ c) × (y ≡ z) → (a ≡ b) × (x ≡ y)
-same p q = (p .0 ∙ sym (q .0), p .1 ∙ sym (q .1))
-
 -- ---- a partial conversion
 
 module _ (file : List ℕ) (k : ℕ) (before : List ℕ) where
@@ -28,16 +25,16 @@ module _ (file : List ℕ) (k : ℕ) (before : List ℕ) where
   partly-once a b r s x y = go (verdict file) refl
     where
       room : (held : Held) → verdict file ≡ holds held → k ≤ held .states → Dec (wholeNodes before < length (stageAfter k held .table)) → (r ≡ s) × (a ≡ b)
-      room held e h (yes l) = same (x .short held e h l) (y .short held e h l)
-      room held e h (no l) = let m : length (stageAfter k held .table) ≤ wholeNodes before = omega arith in same (x .done held e h m) (y .done held e h m)
+      room held e h (yes l) = alike (x .short held e h l) (y .short held e h l)
+      room held e h (no l) = let m : length (stageAfter k held .table) ≤ wholeNodes before = omega arith in alike (x .done held e h m) (y .done held e h m)
 
       far : (held : Held) → verdict file ≡ holds held → Dec (held .states < k) → (r ≡ s) × (a ≡ b)
-      far held e (yes h) = same (x .too-far held e h) (y .too-far held e h)
+      far held e (yes h) = alike (x .too-far held e h) (y .too-far held e h)
       far held e (no h) = room held e (omega arith) (decLt (wholeNodes before) (length (stageAfter k held .table)))
 
       go : (v : Verdict) → verdict file ≡ v → (r ≡ s) × (a ≡ b)
       go (holds held) e = far held e (decLt (held .states) k)
-      go (fault number offset) e = same (x .faulty number offset e) (y .faulty number offset e)
+      go (fault number offset) e = alike (x .faulty number offset e) (y .faulty number offset e)
 
   -- "They never exceed 1 + n + t + n × (t + f + 1) + f": where so many whole nodes fit, the conversion is done
   pub partly-fits : (after : List ℕ) (r : Partly) → PartlyAnswered file k before after r → (held : Held) → verdict file ≡ holds held → k ≤ held .states → boundOf held ≤ wholeNodes before → r .refusal .number ≡ 0
@@ -53,12 +50,12 @@ module _ (file before : List ℕ) where
   wholly-once a b r s x y = go (verdict file) refl
     where
       room : (held : Held) → verdict file ≡ holds held → Dec (wholeNodes before < length (converted held .table)) → (r ≡ s) × (a ≡ b)
-      room held e (yes l) = same (x .short held e l) (y .short held e l)
-      room held e (no l) = let m : length (converted held .table) ≤ wholeNodes before = omega arith in same (x .done held e m) (y .done held e m)
+      room held e (yes l) = alike (x .short held e l) (y .short held e l)
+      room held e (no l) = let m : length (converted held .table) ≤ wholeNodes before = omega arith in alike (x .done held e m) (y .done held e m)
 
       go : (v : Verdict) → verdict file ≡ v → (r ≡ s) × (a ≡ b)
       go (holds held) e = room held e (decLt (wholeNodes before) (length (converted held .table)))
-      go (fault number offset) e = same (x .faulty number offset e) (y .faulty number offset e)
+      go (fault number offset) e = alike (x .faulty number offset e) (y .faulty number offset e)
 
   module _ (after : List ℕ) (r : Wholly) (x : WhollyAnswered file before after r) (held : Held) (e : verdict file ≡ holds held) where
     pub wholly-fits : boundOf held ≤ wholeNodes before → r .refusal .number ≡ 0

@@ -3,16 +3,18 @@ use Prim.Native.Nat.{ℕ, zero, suc, _+_, _*_, _<_, _≤_}
 use native.Mathlib.Omega.{arith}
 use mathlib.Core.Path.{_≡_, refl, sym, _∙_, ap, ap₂, subst}
 use mathlib.Core.Bool.{Bool, true, false, cond}
-use mathlib.Core.List.{List, [], _∷_, _++_, map}
+use mathlib.Core.List.{List, [], _∷_, _++_, map, map-append}
 use lib.ListN.{length, getD, set, take, drop, replicate, length-map}
 use lib.Seq.{length-take-le}
 use Rattle.sets.specs.Members.{has, howMany, size, stateWidth}
 use Rattle.automaton.specs.declared.Automaton.{Automaton}
 use Rattle.automaton.specs.declared.Reading.{Reading}
-use Rattle.automaton.specs.Held.{Held}
+use Rattle.automaton.specs.Held.{Held, Valid}
 use Rattle.automaton.specs.Checks.{Verdict, holds, fault, verdict}
 use Rattle.automaton.specs.Answers.{filled, placed, heldBy, readingOf, readAnswer}
 use Rattle.automaton.proofs.Places.{filled-none, filled-set, filled-take}
+use Rattle.automaton.proofs.Faults.{fault-some}
+use Rattle.automaton.proofs.Laws.{held-placed}
 use Rattle.automaton.proofs.Pair.{verdict-valid}
 use Rattle.expressions.specs.Nodes.{Node, Table}
 use Rattle.expressions.specs.Words.{nodeWidth, readNode, tableOf, wordsOf}
@@ -30,9 +32,7 @@ use Rattle.elimination.specs.Inside.{Ready, Gives, Moves, Good, noPlace,
 use Rattle.elimination.proofs.Bound.{bound-file}
 use Rattle.elimination.proofs.Theorem.{partly-ascending, wholly-ascending}
 use Rattle.elimination.proofs.Holding.{node-read, holds-table}
-use Rattle.elimination.proofs.Lists.{map-append}
 use Rattle.elimination.proofs.RowList.{rows-count, rows-few, rows-more, row-low, list-count, rows-of-list}
-use Rattle.elimination.proofs.Files.{fault-some, held-placed, good-placed}
 
 -- ---- the list of the answer
 
@@ -100,22 +100,25 @@ whole-fits words table h l = omega arith
 
 -- ---- what stands in the words and in the answer
 
-rows-back : (table : Table) (rows : List NodeRow) → map rowOfPlace (map (listRow table) rows) ≡ rows
+pub rows-back : (table : Table) (rows : List NodeRow) → map rowOfPlace (map (listRow table) rows) ≡ rows
 unfolding listRow
 rows-back table [] = refl
 rows-back table (row ∷ rows) = ap (row ∷_) (rows-back table rows)
 
-answered : (stage : Stage) (rest : List ℕ) → stageAnswered (wordsOf (stage .table) ++ rest) (partlyDone stage) ≡ stage
+pub answered : (stage : Stage) (rest : List ℕ) → stageAnswered (wordsOf (stage .table) ++ rest) (partlyDone stage) ≡ stage
 unfolding stageAnswered partlyDone listOfRows
 answered stage rest =
     ap₂ (λ (t : Table) (r : List NodeRow). record { table = t; rows = r }) (table-words (stage .table) rest)
     (ap (map rowOfPlace) (filled-take listPlaces unusedPlace (map (listRow (stage .table)) (stage .rows)) (length (stage .rows)) (sym (length-map (stage .rows) (listRow (stage .table))))) ∙ rows-back (stage .table) (stage .rows))
 
-answered-made : (made : Made) (rest : List ℕ) → madeAnswered (wordsOf (made .table) ++ rest) (whollyDone made) ≡ made
+pub answered-made : (made : Made) (rest : List ℕ) → madeAnswered (wordsOf (made .table) ++ rest) (whollyDone made) ≡ made
 unfolding madeAnswered whollyDone
 answered-made made rest = ap (λ (t : Table). record { table = t; node = made .node }) (table-words (made .table) rest)
 
 -- ---- the file
+
+good-placed : (held : Held) → Valid held → Good (placed held)
+good-placed held v = let e = held-placed held v in record { is = sym (ap placed e); valid = subst Valid (sym e) v }
 
 module _ (file : List ℕ) (reading : Reading) (er : reading ≡ readAnswer file) where
   pub read-faulty : (number offset : ℕ) → verdict file ≡ fault number offset → reading .refusal .number ≡ number

@@ -1,9 +1,9 @@
 -- The row list as a value: its rows, one after the other.
-use Prim.Native.Nat.{ℕ, zero, suc, _+_, _<_, _≤_}
+use Prim.Native.Nat.{ℕ, _+_, _<_, _≤_}
 use native.Mathlib.Omega.{arith}
 use native.Mathlib.Numerals.{add-one}
 use mathlib.Core.Path.{_≡_, refl, sym, _∙_, ap, ap₂, subst}
-use mathlib.Core.List.{List, [], _∷_, _++_, map}
+use mathlib.Core.List.{List, [], _∷_, _++_, map, map-append}
 use lib.ListN.{length, getD, set, take, drop, length-map, length-append, List·getD-map, drop-of-length-le}
 use lib.Seq.{drop-cons, getD-take, take-suc}
 use Rattle.automaton.specs.Held.{All}
@@ -13,12 +13,7 @@ use Rattle.elimination.specs.declared.taking.Place.{Place}
 use Rattle.elimination.specs.declared.taking.Rows.{Rows}
 use Rattle.elimination.specs.Stages.{NodeRow}
 use Rattle.elimination.specs.Inside.{places, noPlace, rowOf, placeOf, rowsIn, listOf, Listed}
-use Rattle.elimination.proofs.Lists.{map-append}
-
-pub all-at : {A : Type 0} (P : A → Type 0) (xs : List A) → All P xs → (i : ℕ) (d : A) → i < length xs → P (getD xs i d)
-all-at P [] a i d h = absurd (omega arith)
-all-at P (x ∷ xs) a zero d h = a .0
-all-at P (x ∷ xs) a (suc i) d h = all-at P xs (a .1) i d (omega arith)
+use Rattle.trees.proofs.Lists.{all-at}
 
 -- ---- a list of rows as a value, and back
 

@@ -11,7 +11,7 @@ use Rattle.automaton.specs.Held.{All}
 use Rattle.expressions.specs.Nodes.{Node, Table}
 use Rattle.expressions.specs.Words.{tableOf}
 use Rattle.expressions.proofs.Words.{length-table}
-use Rattle.expressions.proofs.Lists.{all-map}
+use Rattle.trees.proofs.Lists.{all-map}
 use Rattle.elimination.specs.declared.maker.Got.{Got}
 use Rattle.elimination.specs.declared.taking.Rows.{Rows}
 use Rattle.elimination.specs.declared.taking.Moved.{Moved}

@@ -8,7 +8,7 @@ use mathlib.Core.Logic.{_⊎_, inl, inr, _↔_}
 use lib.Dec.{T, eqb, eqb→eq}
 use Rattle.sets.specs.Members.{has}
 use Rattle.sets.proofs.Bits.{has-high}
-use Rattle.automaton.specs.Held.{Rule, Held, All, ValidRule, Valid}
+use Rattle.automaton.specs.Held.{Rule, Held, All, Valid}
 use Rattle.trees.specs.Trees.{Tree, Forest, hole, node, []ᶠ, _∷ᶠ_}
 use Rattle.trees.specs.Runs.{Reaches, ReachesEach, Accepted}
 use Rattle.expressions.specs.Fillings.{Family, Filled, FilledAll, at, under, none, both}
@@ -16,8 +16,9 @@ use Rattle.expressions.specs.Expressions.{Denotes, DenotesEach, isOpenIn}
 use Rattle.expressions.proofs.Tests.{of-true, to-true, or-cases}
 use Rattle.expressions.proofs.Fillings.{filled-hole}
 use Rattle.elimination.specs.RowLists.{Row, ascending, finalTarget, finalStates}
-use Rattle.elimination.specs.OnExpressions.{holesᴱ, ruleRow, finalRow, startRows}
-use Rattle.elimination.proofs.Lists.{of-all, in-those, of-those, in-ascending, of-ascending}
+use Rattle.elimination.proofs.OnExpressions.{holesᴱ, ruleRow, finalRow, startRows}
+use Rattle.trees.proofs.Firing.{valid-member}
+use Rattle.elimination.proofs.Lists.{in-those, of-those, in-ascending, of-ascending}
 use Rattle.elimination.proofs.Levels.{Reached, Denoted, closed, least}
 use Rattle.elimination.proofs.Step.{RowIn, RowsIn}
 
@@ -63,9 +64,6 @@ unfolding startRows
 final-in held q m = Memᴰ·append-right (map ruleRow (held .rules)) (Memᴰ·map finalRow m)
 
 module _ (held : Held) (v : Valid held) where
-  rule-valid : (rule : Rule) → List·Memᴰ rule (held .rules) → ValidRule (held .states) (held .arities) rule
-  rule-valid rule m = of-all (ValidRule (held .states) (held .arities)) (held .rules) (v .valid-rules) m
-
   -- ---- what the list accepts, the automaton does
 
   -- toward a state, what it reaches; toward 16, what is accepted
@@ -94,7 +92,7 @@ module _ (held : Held) (v : Valid held) where
   rule-run rule m s t d (under {f} {ss} {ts} xs) =
       let e = d .1 in
       let i : ss ≡ d .0 = cc in
-      (rule, m, (cc), refl, each-of (rule .sources) ss ts (rule-valid rule m .sourced) (rw i (d .2)) xs)
+      (rule, m, (cc), refl, each-of (rule .sources) ss ts (valid-member held v rule m .sourced) (rw i (d .2)) xs)
 
   row-run : (row : Row) (s t : Tree) → StartRow held row → Denotes (row .expr) s → Filled Run s t → Run (row .target) t
   unfolding Run
@@ -109,7 +107,7 @@ module _ (held : Held) (v : Valid held) where
     where
       low : (t : Tree) → Reaches (held .rules) t finalTarget → ⊥
       low (hole p) y = y
-      low (node f ts) y = let h = rule-valid (y .0) (y .1) .aimed in let l = v .few-states in let e = y .3 in omega arith
+      low (node f ts) y = let h = valid-member held v (y .0) (y .1) .aimed in let l = v .few-states in let e = y .3 in omega arith
 
       go : Run finalTarget t → Accepted held t
       go (inl y) = absurd (low t y)
@@ -165,5 +163,5 @@ module _ (held : Held) (v : Valid held) where
   start-in row m = go (start-row held row m)
     where
       go : StartRow held row → RowIn (λ r. (r < held .states) ⊎ (r ≡ finalTarget)) (λ p. p < held .states) row
-      go (of-rule rule n e) = rw (← e) (record { aimed = inl (rule-valid rule n .aimed); opened = λ p w. holes-open (rule .sources) p (rule-valid rule n .sourced) w })
+      go (of-rule rule n e) = rw (← e) (record { aimed = inl (valid-member held v rule n .aimed); opened = λ p w. holes-open (rule .sources) p (valid-member held v rule n .sourced) w })
       go (of-final q n e) = rw (← e) (record { aimed = inr refl; opened = λ p w. let i = eqb→eq p q w in let h = of-finals held q n .0 in omega arith })

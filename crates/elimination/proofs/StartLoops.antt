@@ -4,7 +4,7 @@ use native.Mathlib.Omega.{arith}
 use native.Mathlib.Numerals.{add-one}
 use mathlib.Core.Path.{_≡_, refl, sym, _∙_, ap, ap₂, subst}
 use mathlib.Core.Bool.{true, false}
-use mathlib.Core.List.{List, [], _∷_, _++_, map, append-assoc, append-nil}
+use mathlib.Core.List.{List, [], _∷_, _++_, map, map-append, append-assoc, append-nil}
 use lib.ListN.{length, getD, set, drop, replicate, length-map, drop-of-length-le}
 use lib.Seq.{drop-cons, append-snoc}
 use borrow.Author.Tests.{lt-ltb, le-ltb}
@@ -25,14 +25,15 @@ use Rattle.elimination.specs.declared.taking.Moved.{Moved}
 use Rattle.elimination.specs.RowLists.{those, ascending}
 use Rattle.elimination.specs.Stages.{NodeRow, Made, holeAt, holesTable, ruleShape, rulesTable, ruleRows, finalNodeRow, added, withNode}
 use Rattle.elimination.specs.Inside.{Ready, Holds, Gives, Moves, places, noPlace, rowsIn, listOf, Good, childOf, rowShape, rulesStage, Tidy}
-use Rattle.elimination.proofs.Lists.{map-append, those-append}
+use Rattle.trees.proofs.Lists.{all-at}
+use Rattle.elimination.proofs.Lists.{those-append}
 use Rattle.elimination.proofs.Grows.{grown-longer, with-grows, rules-grow}
 use Rattle.elimination.proofs.Turns.{holes-next, rules-done, rules-next, ruleRows-next, those-none, those-take, those-skip}
 use Rattle.elimination.proofs.Fitting.{rule-fits}
 use Rattle.elimination.proofs.StartTable.{with-length, holes-table}
 use Rattle.elimination.proofs.Holding.{never, holds-self, holds-length, holds-table, holds-ready, holds-then, large-before}
 use Rattle.elimination.proofs.Composing.{given, gives-stop, gives-then}
-use Rattle.elimination.proofs.RowList.{all-at, list-none, list-more, list-count}
+use Rattle.elimination.proofs.RowList.{list-none, list-more, list-count}
 
 -- ---- the empty node and the holes
 

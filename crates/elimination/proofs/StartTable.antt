@@ -3,21 +3,22 @@ use Prim.Native.Nat.{ℕ, zero, suc, _<_, _≤_}
 use native.Mathlib.Omega.{arith}
 use native.Mathlib.Decide.{decLt}
 use mathlib.Core.Path.{_≡_, refl, sym, _∙_, ap, ap₂}
-use mathlib.Core.List.{List, [], _∷_, _++_, map}
-use lib.ListN.{length, getD, length-append}
+use mathlib.Core.List.{List, [], _∷_, _++_, map, map-append}
+use lib.ListN.{length, length-append}
 use Rattle.automaton.specs.Held.{Rule, Held, All, ValidRule, Valid}
 use Rattle.expressions.specs.Expressions.{holeᴱ, symbolᴱ, _∷ᴱ_}
 use Rattle.expressions.specs.Nodes.{Shape, Table, symbolOf, labelOf, emptyShape, holeShape, children}
 use Rattle.expressions.specs.Unfolding.{exprsOf, builtOf, built, exprAt}
 use Rattle.expressions.specs.Soundness.{SoundNodes, completed}
-use Rattle.expressions.proofs.Lists.{all-map}
+use Rattle.automaton.proofs.Files.{all-get}
+use Rattle.trees.proofs.Lists.{all-map}
 use Rattle.expressions.proofs.Unfolding.{built-empty, built-hole}
 use Rattle.expressions.proofs.Soundness.{sound-none}
 use Rattle.elimination.specs.RowLists.{finalTarget, finalStates}
-use Rattle.elimination.specs.OnExpressions.{holesᴱ, ruleRow, finalRow, startRows}
+use Rattle.elimination.proofs.OnExpressions.{holesᴱ, ruleRow, finalRow, startRows}
 use Rattle.elimination.specs.Stages.{unfoldedRow, withNode, holeAt, holesTable, ruleShape, rulesTable, startTable, ruleRows, finalNodeRow, start, added}
 use Rattle.elimination.proofs.Grows.{grown-none, grown-then, grown-longer, grown-expr}
-use Rattle.elimination.proofs.Lists.{to-all, all-append, map-append}
+use Rattle.elimination.proofs.Lists.{to-all, all-append}
 use Rattle.elimination.proofs.Start.{of-finals}
 use Rattle.elimination.proofs.Fitting.{empty-fits, hole-fits, rule-fits, rule-children, symbol-of-label}
 use Rattle.elimination.proofs.Mirror.{Mirrors, added-mirrors, Begins, begins-grown}
@@ -139,17 +140,12 @@ module _ (held : Held) (v : Valid held) where
   rules-ruled : All (Ruled (held .states)) (held .rules)
   rules-ruled = all-map (held .rules) (λ rule k. ruled rule k) (v .valid-rules)
     where
-      arity-few : (arities : List ℕ) (f : ℕ) → All (λ a. a ≤ 3) arities → getD arities f 0 ≤ 3
-      arity-few [] f a = omega arith
-      arity-few (x ∷ xs) zero a = a .0
-      arity-few (x ∷ xs) (suc f) a = arity-few xs f (a .1)
-
       ruled : (rule : Rule) → ValidRule (held .states) (held .arities) rule → Ruled (held .states) rule
       ruled rule k =
           let h = k .known in
           let l = v .few-symbols in
           let e = k .suited in
-          let m = arity-few (held .arities) (rule .symbol) (v .small-arities) in
+          let m = all-get (λ a. a ≤ 3) (held .arities) (rule .symbol) (omega arith) (v .small-arities) in
           record { known = omega arith; few = omega arith; low = k .sourced }
 
   finals-states : All (λ q. q < held .states) (finalStates held)

@@ -2,7 +2,7 @@
 use Prim.Native.Nat.{ℕ, _≤_}
 use native.Mathlib.Omega.{arith}
 use mathlib.Core.Path.{_≡_, refl, sym, _∙_, ap}
-use mathlib.Core.Bool.{Bool, true, false, cond, not, _&&_, _||_}
+use mathlib.Core.Bool.{Bool, true, false, cond, not, _&&_, _||_, and-true}
 use mathlib.Core.List.{List, List·Memᴰ, Memᴰ·map, Memᴰ·of-map}
 use mathlib.Core.Logic.{_⊎_, inl, inr, _↔_}
 use lib.ListN.{length, length-map}
@@ -14,9 +14,9 @@ use Rattle.expressions.specs.Expressions.{Expr, Concatenated, Iterated, Denotes
 use Rattle.expressions.proofs.Tests.{not-of-false, and-cases}
 use Rattle.expressions.proofs.Fillings.{Within, within-more, filled-more, filled-same, filled-stays, only-more}
 use Rattle.expressions.proofs.Opens.{denoted-within}
-use Rattle.elimination.specs.Making.{makeCat, makeIter, joined}
+use Rattle.elimination.proofs.OnExpressions.{makeCat, makeIter, joined}
 use Rattle.elimination.specs.RowLists.{Row, those}
-use Rattle.elimination.specs.OnExpressions.{looping, incoming, outgoing, exprs, standIn, replaced, remains, eliminated}
+use Rattle.elimination.proofs.OnExpressions.{looping, incoming, outgoing, exprs, standIn, replaced, remains, eliminated}
 use Rattle.elimination.proofs.Lists.{in-those, of-those, those-length}
 use Rattle.elimination.proofs.Levels.{Reached, Denoted}
 use Rattle.elimination.proofs.OneState.{Taken, forth, back}
@@ -58,11 +58,7 @@ module _ (q : ℕ) (row : Row) where
   -- and goes out where q is open
   pub outgoing-is : T (remains q row) → outgoing q row ≡ isOpen (row .expr) q
   unfolding outgoing
-  outgoing-is w = rw (ne-eqb (row .target) q (remains-is w)) (go (isOpen (row .expr) q))
-    where
-      go : (b : Bool) → (b && true) ≡ b
-      go true = refl
-      go false = refl
+  outgoing-is w = rw (ne-eqb (row .target) q (remains-is w)) (and-true (isOpen (row .expr) q))
 
 pub replaced-target : (q : ℕ) (X : Expr) (row : Row) → replaced q X row .target ≡ row .target
 unfolding replaced

@@ -6,10 +6,11 @@ use mathlib.Core.List.{List, List·Memᴰ}
 use mathlib.Core.Logic.{_⊎_, inl, inr}
 use lib.ListN.{length}
 use Rattle.automaton.specs.Held.{Held, All, Valid}
-use Rattle.elimination.specs.RowLists.{finalTarget, ascending, Distinct}
+use Rattle.elimination.specs.RowLists.{finalTarget, ascending}
 use Rattle.elimination.specs.Stages.{NodeRow, start, eliminatedStages, stageAfter, joinStage, converted}
 use Rattle.elimination.specs.Theorem.{PartlyConverted, WhollyConverted}
-use Rattle.elimination.proofs.Lists.{of-all, in-ascending, all-ascending, distinct-ascending}
+use Rattle.trees.proofs.Lists.{of-all}
+use Rattle.elimination.proofs.Lists.{Distinct, in-ascending, all-ascending, distinct-ascending}
 use Rattle.elimination.proofs.Converted.{stage-accepts, stage-not-open, stage-aimed, stage-low, stage-no-more, stage-sound, joined-mirrors, joined-denotes}
 use Rattle.elimination.proofs.Bound.{stage-few, joined-few}
 

@@ -1,7 +1,7 @@
 -- The definitions on node numbers, turn by turn: what each gives by cases of its tests and of its list, for the code that goes the same way.
 use Prim.Native.Nat.{ℕ, suc}
 use mathlib.Core.Path.{_≡_, refl}
-use mathlib.Core.Bool.{Bool, true, false, not, _&&_, _||_}
+use mathlib.Core.Bool.{Bool, true, false, not, _&&_, _||_, and-true}
 use mathlib.Core.List.{List, [], _∷_, _++_}
 use lib.Dec.{eqb}
 use Rattle.automaton.specs.Held.{Rule, Held}
@@ -79,11 +79,7 @@ module _ (q : ℕ) (table : Table) (row : NodeRow) where
 
   pub outgoing-open : eqb (row .target) q ≡ false → outgoingNode q table row ≡ isOpenRow q table row
   unfolding outgoingNode
-  outgoing-open e = rw e (go (isOpenRow q table row))
-    where
-      go : (b : Bool) → (b && true) ≡ b
-      go true = refl
-      go false = refl
+  outgoing-open e = rw e (and-true (isOpenRow q table row))
 
 -- ---- replacing
 

@@ -13,11 +13,11 @@ use Rattle.expressions.specs.Expressions.{Denotes, isOpen}
 use Rattle.expressions.proofs.Tests.{to-false}
 use Rattle.expressions.proofs.Fillings.{Within, within-more, filled-same, filled-stays}
 use Rattle.expressions.proofs.Opens.{denoted-within}
-use Rattle.elimination.specs.Making.{joined}
-use Rattle.elimination.specs.RowLists.{Row, finalTarget, ascending}
-use Rattle.elimination.specs.OnExpressions.{exprs, startRows, eliminated, eliminatedAll, answerOf, rowsAfter}
+use Rattle.elimination.proofs.OnExpressions.{joined}
+use Rattle.elimination.specs.RowLists.{Row, finalTarget}
+use Rattle.elimination.proofs.OnExpressions.{exprs, startRows, eliminated, eliminatedAll, answerOf}
 use Rattle.elimination.specs.Acceptance.{Accepts}
-use Rattle.elimination.proofs.Lists.{of-all, in-ascending, all-ascending}
+use Rattle.trees.proofs.Lists.{of-all}
 use Rattle.elimination.proofs.Levels.{Toward, Reached, Denoted, accepts}
 use Rattle.elimination.proofs.Making.{denotes-joined}
 use Rattle.elimination.proofs.Step.{RowIn, RowsIn, step-accepts, step-in, step-length}
@@ -126,22 +126,3 @@ module _ (held : Held) (v : Valid held) (gone : List ℕ) (states : All (λ q. q
 
         to : Denoted rows finalTarget t → Denotes (joined (exprs rows)) t
         to d = denotes-joined (exprs rows) t .1 (d .0 .expr, Memᴰ·map (λ (row : Row). row .expr) (d .1), d .3)
-
--- ---- ascending order, as document 01 fixes it
-
-module _ (held : Held) (v : Valid held) where
-  pub rows-after-accept : (k : ℕ) → k ≤ held .states → (t : Tree) → Accepts (rowsAfter k held) t ↔ Accepted held t
-  unfolding rowsAfter
-  rows-after-accept k h t = list-accepts held v (ascending k) (all-ascending k (held .states) h) t
-
-  pub rows-after-not-open : (k : ℕ) → k ≤ held .states → (row : Row) → List·Memᴰ row (rowsAfter k held) → (q : ℕ) → q < k → isOpen (row .expr) q ≡ false
-  unfolding rowsAfter
-  rows-after-not-open k h row m q l = gone-not-open held v (ascending k) (all-ascending k (held .states) h) row m q (in-ascending k q l)
-
-  pub rows-after-no-more : (k : ℕ) → length (rowsAfter k held) ≤ length (startRows held)
-  unfolding rowsAfter
-  rows-after-no-more k = all-length (ascending k) (startRows held)
-
-  pub answer-after-all : (t : Tree) → Denotes (answerOf (rowsAfter (held .states) held)) t ↔ Accepted held t
-  unfolding rowsAfter
-  answer-after-all t = answer-denotes held v (ascending (held .states)) (all-ascending (held .states) (held .states) (omega arith)) (λ q l. in-ascending (held .states) q l) t

@@ -1,7 +1,7 @@
 -- Document 01, "Eliminating the states": what a row list is made of.
 use Prim.Native.Nat.{ℕ, zero, suc}
 use mathlib.Core.Bool.{Bool, cond}
-use mathlib.Core.List.{List, [], _∷_, _++_, List·Memᴰ}
+use mathlib.Core.List.{List, [], _∷_, _++_}
 use Rattle.sets.specs.Members.{has}
 use Rattle.automaton.specs.Held.{Held}
 use Rattle.expressions.specs.Expressions.{Expr}
@@ -28,8 +28,3 @@ ascending (suc k) = ascending k ++ (k ∷ [])
 -- the final states, ascending
 unfoldable pub finalStates : Held → List ℕ
 finalStates held = those (has (held .finals)) (ascending (held .states))
-
--- no state twice
-abbrev pub Distinct : List ℕ → Type 0
-Distinct [] = Unit {0}
-Distinct (q ∷ qs) = (List·Memᴰ q qs → ⊥) × Distinct qs

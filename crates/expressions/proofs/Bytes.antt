@@ -1,12 +1,12 @@
 -- Bytes written one after the other are the bytes of both; and the digits of a number, stored one by one.
-use Prim.Native.Nat.{ℕ, zero, suc, _+_, _/_, _%_, _<_, _≤_}
+use Prim.Native.Nat.{ℕ, suc, _+_, _/_, _<_, _≤_}
 use native.Mathlib.Omega.{arith}
-use native.Mathlib.Nat.{add-zero, add-suc}
+use native.Mathlib.Nat.{add-zero}
 use native.Mathlib.Numerals.{add-one}
-use mathlib.Core.Path.{_≡_, refl, sym, _∙_, ap}
+use mathlib.Core.Path.{_≡_, refl, _∙_}
 use mathlib.Core.List.{List, [], _∷_, _++_}
-use lib.ListN.{length, getD, set, take, drop, length-append}
-use lib.Seq.{sets, take-suc, length-take-le, take-length, sets-eq}
+use lib.ListN.{length, getD, set, take, length-append}
+use lib.Seq.{sets, take-suc}
 use Rattle.expressions.specs.Listing.{decimal}
 use Rattle.expressions.specs.Writing.{Wrote}
 use Rattle.expressions.proofs.Decimal.{lastDigit, decimal-one, decimal-two, decimal-three, decimal-four}

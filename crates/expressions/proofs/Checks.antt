@@ -1,24 +1,24 @@
 -- What the checks of one node come to: the places of its children one by one, and its open set from its children's words.
 use Prim.Native.Nat.{ℕ, zero, suc, _+_, _*_, _^_, _%_, _<_, _≤_}
 use native.Mathlib.Omega.{arith}
-use mathlib.Core.Path.{_≡_, refl, sym, _∙_, ap, subst}
-use mathlib.Core.Bool.{Bool, true, false, cond}
-use mathlib.Core.List.{List, [], _∷_, _++_, map}
+use mathlib.Core.Path.{_≡_, refl, sym, _∙_, ap}
+use mathlib.Core.Bool.{true, false, cond}
+use mathlib.Core.List.{List, [], _∷_, map}
 use lib.Dec.{ltb, eqb}
 use lib.ListN.{length, getD, take, drop}
-use borrow.Author.Tests.{lt-ltb, le-ltb}
+use borrow.Author.Tests.{lt-ltb}
 use Rattle.sets.specs.Members.{has, emptySet, union, without, stateWidth}
 use Rattle.automaton.specs.Held.{All}
-use Rattle.expressions.specs.Nodes.{Shape, Node, Table, shapeOf, nodeAt, childCount, children, unused}
+use Rattle.expressions.specs.Nodes.{Shape, Node, shapeOf, nodeAt, childCount, children, unused}
 use Rattle.expressions.specs.Words.{nodeWidth, readNode, tableOf, putNode}
 use Rattle.expressions.specs.Soundness.{Labelled, Fits, unionAll, catOpens, opensIn, completed, SoundNode, SoundNodes}
 use Rattle.expressions.specs.Making.{Room, refusal, Makes}
-use Rattle.expressions.specs.Answers.{Decides}
-use Rattle.expressions.proofs.Lists.{all-map}
+use Rattle.automaton.specs.Decides.{Decides}
+use Rattle.trees.proofs.Lists.{all-map}
 use Rattle.expressions.proofs.Sets.{has-cut, union-cut-right, without-cut}
 use Rattle.expressions.proofs.Words.{read-words, length-table, table-at, table-more, take-table}
 use Rattle.expressions.proofs.Soundness.{opens-same, sound-none, sound-snoc}
-use Rattle.expressions.proofs.Deciding.{decides-no, decides-as, decides-eq}
+use Rattle.automaton.proofs.Deciding.{decides-no, decides-as, decides-eq}
 
 -- no label suits a kind over 5
 pub no-kind : (kind label : ℕ) → 5 < kind → Labelled kind label → ⊥

@@ -1,30 +1,15 @@
 -- Soundness, and what it rests on, is decidable.
-use Prim.Native.Nat.{ℕ, zero, suc, _+_, _*_, _<_, _≤_}
-use native.Mathlib.Omega.{arith}
+use Prim.Native.Nat.{ℕ, zero, suc, _*_, _<_}
 use native.Mathlib.Decide.{decLe, decLt, ℕ-discrete}
-use mathlib.Core.Path.{_≡_, refl, sym, _∙_, ap}
-use mathlib.Core.List.{List, [], _∷_, _++_}
+use mathlib.Core.Path.{_≡_, ap}
+use mathlib.Core.List.{List, [], _∷_}
 use lib.ListN.{length}
-use Rattle.automaton.specs.Held.{All}
+use Rattle.automaton.proofs.Deciding.{both, decided-as, dec-all}
 use Rattle.expressions.specs.Nodes.{Shape, Node, Table, symbolOf, arityOf, children, unused}
 use Rattle.expressions.specs.Words.{nodeWidth, readNode, tableOf}
 use Rattle.expressions.specs.Soundness.{Labelled, Fits, completed, SoundNode, SoundNodes, mostNodes, Sound}
 use Rattle.expressions.specs.Making.{Room}
 use Rattle.expressions.proofs.Soundness.{sound-none, sound-snoc, sound-front, sound-last}
-
-both : {A B : Type 0} → Dec A → Dec B → Dec (A × B)
-both (yes a) (yes b) = yes (a, b)
-both (yes a) (no n) = no (λ p. n (p .1))
-both (no n) d = no (λ p. n (p .0))
-
--- a claim that is equivalent to a decided one
-decided-as : {A B : Type 0} → Dec A → (A → B) → (B → A) → Dec B
-decided-as (yes a) f g = yes (f a)
-decided-as (no n) f g = no (λ b. n (g b))
-
-dec-all : {A : Type 0} (P : A → Type 0) → ((x : A) → Dec (P x)) → (xs : List A) → Dec (All P xs)
-dec-all P d [] = yes tt
-dec-all P d (x ∷ xs) = both (d x) (dec-all P d xs)
 
 dec-labelled : (kind label : ℕ) → Dec (Labelled kind label)
 dec-labelled zero label = ℕ-discrete label 0

@@ -2,7 +2,6 @@ pub mod Lists
 pub mod Sets
 pub mod Words
 pub mod Unfolding
-pub mod Deciding
 pub mod Soundness
 pub mod OpenSets
 pub mod Checks

@@ -2,20 +2,19 @@
 use Prim.Native.Nat.{ℕ, zero, suc, _+_, _<_, _≤_}
 use native.Mathlib.Omega.{arith}
 use native.Mathlib.Nat.{add-zero, zero-add}
-use mathlib.Core.Path.{_≡_, refl, sym, _∙_, ap, ap₂}
+use mathlib.Core.Path.{_≡_, refl, sym, _∙_, ap}
 use mathlib.Core.List.{List, [], _∷_, _++_, map, append-nil, append-assoc}
-use lib.Dec.{ltb}
-use lib.ListN.{length, getD, take, drop, length-append, take-append-drop}
+use lib.ListN.{length, take, drop, length-append, take-append-drop}
 use lib.Seq.{sets, sets-eq}
 use borrow.Author.Tests.{lt-ltb, le-ltb}
 use Rattle.automaton.specs.Held.{All}
-use Rattle.expressions.specs.Nodes.{Shape, Node, Table, shapeOf, symbolOf, childCount, children}
+use Rattle.expressions.specs.Nodes.{Shape, Table, shapeOf, symbolOf, childCount, children}
 use Rattle.expressions.specs.Words.{readNode, tableOf}
-use Rattle.expressions.specs.Soundness.{Labelled, Fits, Sound}
+use Rattle.expressions.specs.Soundness.{Fits, Sound}
 use Rattle.expressions.specs.Listing.{decimal, kindName, labelFields, spaced, line, labelNumber, plainLabel, headFields, nodeLine, nodeLines, answerLine, listing}
 use Rattle.expressions.specs.Writing.{Wrote, headBytes, childBytes}
 use Rattle.expressions.specs.Answers.{Lists, listed, listingOf}
-use Rattle.expressions.proofs.Lists.{all-map}
+use Rattle.trees.proofs.Lists.{all-map}
 use Rattle.expressions.proofs.Words.{length-table, table-more, take-table}
 
 -- ---- the fields of a line

@@ -1,11 +1,7 @@
--- Lists: what holds of each element, and a map by two functions that agree.
+-- Lists: a map by two functions that agree.
 use mathlib.Core.Path.{_≡_, refl, ap₂}
 use mathlib.Core.List.{List, [], _∷_, map}
 use Rattle.automaton.specs.Held.{All}
-
-pub all-map : {A : Type 0} {P Q : A → Type 0} (xs : List A) → ((x : A) → P x → Q x) → All P xs → All Q xs
-all-map [] f h = tt
-all-map (x ∷ xs) f h = (f x (h .0), all-map xs f (h .1))
 
 pub map-same : {A B : Type 0} (f g : A → B) (xs : List A) → All (λ x. f x ≡ g x) xs → map f xs ≡ map g xs
 map-same f g [] h = refl

@@ -1,13 +1,13 @@
 -- Making a node, for those who make them: which shapes fit, when a node is made, and what the table then is.
-use Prim.Native.Nat.{ℕ, zero, suc, _*_, _<_, _≤_}
+use Prim.Native.Nat.{ℕ, suc, _<_, _≤_}
 use native.Mathlib.Omega.{arith}
-use mathlib.Core.Path.{_≡_, refl, sym, _∙_, ap, ap₂, subst}
+use mathlib.Core.Path.{_≡_, refl, sym, _∙_, ap, ap₂}
 use mathlib.Core.List.{List, [], _∷_, _++_}
-use lib.ListN.{length, getD, take, drop}
+use lib.ListN.{length, take, drop}
 use Rattle.automaton.specs.declared.Refusal.{Refusal}
 use Rattle.automaton.specs.Held.{All}
-use Rattle.expressions.specs.Nodes.{Shape, Node, Table, emptyShape, holeShape, symbolShape, altShape, catShape, iterShape, labelOf, symbolOf, arityOf, childCount, children, unused}
-use Rattle.expressions.specs.Words.{nodeWidth, tableOf, wordsOf, putNode}
+use Rattle.expressions.specs.Nodes.{Shape, Table, emptyShape, holeShape, symbolShape, altShape, catShape, iterShape, labelOf, symbolOf, arityOf, childCount, children, unused}
+use Rattle.expressions.specs.Words.{nodeWidth, tableOf, wordsOf}
 use Rattle.expressions.specs.Unfolding.{built, exprAt}
 use Rattle.expressions.specs.Soundness.{Fits, completed, SoundNodes}
 use Rattle.expressions.specs.Making.{Room, refusal, Makes}

@@ -2,7 +2,7 @@
 use Prim.Native.Nat.{ℕ, _<_, _≤_}
 use native.Mathlib.Omega.{arith}
 use native.Mathlib.Decide.{decLt}
-use mathlib.Core.Path.{_≡_, sym, _∙_}
+use mathlib.Core.Path.{_≡_}
 use mathlib.Core.Bool.{Bool}
 use mathlib.Core.List.{List}
 use lib.ListN.{length}
@@ -13,15 +13,12 @@ use Rattle.expressions.specs.Nodes.{Shape}
 use Rattle.expressions.specs.Soundness.{Fits, Sound}
 use Rattle.expressions.specs.Making.{Room, Makes}
 use Rattle.expressions.specs.Answers.{SoundAnswer, Measures, Lists, listingOf}
-use Rattle.expressions.proofs.Deciding.{decides-once}
+use Rattle.automaton.proofs.Laws.{alike}
+use Rattle.automaton.proofs.Deciding.{decides-once}
 use Rattle.expressions.proofs.Decidable.{dec-fits, dec-room, dec-sound}
 
 pub sound-once : (words : List ℕ) (count answer : ℕ) (r s : Bool) → SoundAnswer words count answer r → SoundAnswer words count answer s → r ≡ s
 sound-once words count answer r s p q = decides-once p q
-
--- two that are each the same as a third
-alike : {A B : Type 0} {a b x : A} {c d y : B} → (a ≡ x) × (c ≡ y) → (b ≡ x) × (d ≡ y) → (a ≡ b) × (c ≡ d)
-alike p q = (p .0 ∙ sym (q .0), p .1 ∙ sym (q .1))
 
 pub make-once : (before : List ℕ) (count : ℕ) (shape : Shape) (after other : List ℕ) (r s : Refusal)
     → Makes before count shape after r → Makes before count shape other s → (r ≡ s) × (after ≡ other)

@@ -1,22 +1,25 @@
 -- A sound node's open word is the open set of its expression.
-use Prim.Native.Nat.{ℕ, zero, suc, _^_, _<_, _≤_}
+use Prim.Native.Nat.{ℕ, zero, suc, _^_, _<_}
 use native.Mathlib.Omega.{arith}
-use native.Mathlib.Decide.{decLt}
-use mathlib.Core.Path.{_≡_, refl, sym, _∙_, ap, ap₂}
+use mathlib.Core.Path.{_≡_, sym, _∙_, ap, ap₂}
 use mathlib.Core.Bool.{Bool, true, false, cond, not, _&&_, _||_, or-false}
 use mathlib.Core.List.{List, [], _∷_, map}
-use lib.ListN.{length, getD, take}
+use lib.ListN.{length, take}
 use lib.Dec.{eqb}
-use Rattle.sets.specs.Members.{has, setOf, union, without, oneSet, emptySet, stateWidth}
+use Rattle.sets.specs.Members.{has, setOf, union, without, oneSet, stateWidth}
 use Rattle.sets.proofs.Bits.{setOf-members, setOf-same}
 use Rattle.automaton.specs.Held.{All}
-use Rattle.expressions.specs.Expressions.{Expr, Exprs, catᴱ, isOpen, isOpenIn, openSet}
-use Rattle.expressions.specs.Nodes.{Shape, Node, Table, nodeAt, arityOf, places, childCount, children}
+use Rattle.expressions.specs.Expressions.{Expr, catᴱ, isOpen, isOpenIn}
+use Rattle.expressions.specs.Nodes.{Table, nodeAt, arityOf, childCount, children}
 use Rattle.expressions.specs.Unfolding.{exprsOf, builtOf, built, exprAt}
-use Rattle.expressions.specs.Soundness.{Labelled, Fits, unionAll, catOpens, opensOf, opensIn, SoundNodes}
-use Rattle.expressions.proofs.Lists.{all-map}
+use Rattle.expressions.specs.Soundness.{Labelled, unionAll, catOpens, opensOf, opensIn, SoundNodes}
+use Rattle.trees.proofs.Lists.{all-map}
 use Rattle.expressions.proofs.Sets.{empty-lt, one-lt, union-lt, has-empty, has-one, has-union, has-without, without-lt}
 use Rattle.expressions.proofs.Soundness.{fits-at, opens-at, expr-shape}
+
+-- the open set, as a set of states
+unfoldable pub openSet : Expr → ℕ
+openSet e = setOf stateWidth (λ p. isOpen e p)
 
 -- a set that is the open set of an expression
 pub record OpenOf (set : ℕ) (e : Expr) : Type 0 where

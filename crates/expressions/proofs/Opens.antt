@@ -1,22 +1,17 @@
--- The open set: a denoted tree has only holes of it; and the open set as a number, from those of the parts.
-use Prim.Native.Nat.{ℕ, zero, suc, _^_, _<_}
-use mathlib.Core.Path.{_≡_, refl, sym, ap, _∙_}
+-- The open set: a denoted tree has only holes of it.
+use Prim.Native.Nat.{ℕ, zero, suc}
+use mathlib.Core.Path.{_≡_, refl}
 use mathlib.Core.Bool.{Bool, true, false, cond, not, _&&_, _||_}
 use mathlib.Core.Logic.{inl, inr}
 use lib.Dec.{T, eqb, eqb-refl}
-use borrow.Author.Tests.{lt-ltb}
-use Rattle.sets.specs.Members.{has, setOf, emptySet, oneSet, union, without, stateWidth}
-use Rattle.sets.proofs.Bits.{setOf-lt, setOf-same, has-setOf}
 use Rattle.trees.specs.Trees.{Tree, Forest}
 use Rattle.expressions.specs.Fillings.{Language, Only, here, stays}
-use Rattle.expressions.specs.Expressions.{Expr, Exprs, emptyᴱ, holeᴱ, symbolᴱ, altᴱ, catᴱ, iterᴱ, []ᴱ, _∷ᴱ_, Concatenated, Level, Denotes, DenotesEach, isOpen, isOpenIn, openSet}
+use Rattle.expressions.specs.Expressions.{Expr, Exprs, emptyᴱ, holeᴱ, symbolᴱ, altᴱ, catᴱ, iterᴱ, []ᴱ, _∷ᴱ_, Concatenated, Level, Denotes, DenotesEach, isOpen, isOpenIn}
 use Rattle.expressions.proofs.Tests.{or-left, or-right, and-both, not-of-false, ne-not}
 use Rattle.expressions.proofs.Fillings.{Within, WithinAll, filled-within, within-more, within-all-more}
 
--- ---- a denoted tree has only holes of the open set
-
 -- the holes of a concatenation
-pub concatenated-within : (q : ℕ) (E F : Language) (S R : ℕ → Type 0) (t : Tree) → ((u : Tree) → E u → Within S u)
+concatenated-within : (q : ℕ) (E F : Language) (S R : ℕ → Type 0) (t : Tree) → ((u : Tree) → E u → Within S u)
     → ((p : ℕ) → S p → (p ≡ q → ⊥) → R p) → (S q → (u : Tree) → F u → Within R u) → Concatenated q E F t → Within R t
 concatenated-within q E F S R t he hs hf x = filled-within go (x .2) (he (x .0) (x .1))
   where
@@ -63,79 +58,3 @@ mutual
         within-more (λ p w. or-left (isOpen e p) (isOpenIn es p) w) (x .0) (denoted-within e (x .0) (x .3)),
         within-all-more (λ p w. or-right (isOpen e p) (isOpenIn es p) w) (x .1) (each-within es (x .1) (x .4)),
       )
-
--- ---- the open set as a number
-
-pub openSet-lt : (e : Expr) → openSet e < 2 ^ stateWidth
-unfolding openSet
-openSet-lt e = setOf-lt stateWidth (λ p. isOpen e p)
-
--- of the states below the width it has just the open ones
-pub has-openSet : (e : Expr) (p : ℕ) → p < stateWidth → has (openSet e) p ≡ isOpen e p
-unfolding openSet
-has-openSet e p h = has-setOf stateWidth (λ p. isOpen e p) p ∙ ap (λ (b : Bool). b && isOpen e p) (lt-ltb p stateWidth h)
-
--- where only states are open, a denoted tree has only holes of the set
-pub denoted-in-openSet : (e : Expr) (t : Tree) → ((p : ℕ) → T (isOpen e p) → p < stateWidth) → Denotes e t → Within (λ p. T (has (openSet e) p)) t
-denoted-in-openSet e t h d = within-more {R = λ p. T (has (openSet e) p)} (λ p w. rw (has-openSet e p (h p w)) w) t (denoted-within e t d)
-
--- a union of two sets of those that pass a test
-union-tests : (width : ℕ) (f g : ℕ → Bool) → union width (setOf width f) (setOf width g) ≡ setOf width (λ p. f p || g p)
-unfolding union
-union-tests width f g = setOf-same width (λ p. has (setOf width f) p || has (setOf width g) p) (λ p. f p || g p) (λ p h. rw (has-setOf width f p, has-setOf width g p, lt-ltb p width h))
-
-without-tests : (width : ℕ) (f : ℕ → Bool) (q : ℕ) → without width (setOf width f) q ≡ setOf width (λ p. f p && not (eqb p q))
-unfolding without
-without-tests width f q = setOf-same width (λ p. has (setOf width f) p && not (eqb p q)) (λ p. f p && not (eqb p q)) (λ p h. rw (has-setOf width f p, lt-ltb p width h))
-
-pub openSet-empty : openSet emptyᴱ ≡ emptySet stateWidth
-unfolding openSet emptySet
-openSet-empty = refl
-
-pub openSet-hole : (q : ℕ) → openSet (holeᴱ q) ≡ oneSet stateWidth q
-unfolding openSet oneSet
-openSet-hole q = refl
-
-pub openSet-alt : (a b : Expr) → openSet (altᴱ a b) ≡ union stateWidth (openSet a) (openSet b)
-unfolding openSet
-openSet-alt a b = sym (union-tests stateWidth (λ p. isOpen a p) (λ p. isOpen b p))
-
-pub openSet-iter : (q : ℕ) (a : Expr) → openSet (iterᴱ q a) ≡ union stateWidth (openSet a) (oneSet stateWidth q)
-unfolding openSet oneSet
-openSet-iter q a = sym (union-tests stateWidth (λ p. isOpen a p) (λ p. eqb p q))
-
--- the letter must be a state: a wider one may be open, and is in no set
-pub openSet-cat : (q : ℕ) (a b : Expr) → q < stateWidth
-    → openSet (catᴱ q a b) ≡ cond (has (openSet a) q) (union stateWidth (without stateWidth (openSet a) q) (openSet b)) (openSet a)
-unfolding openSet
-openSet-cat q a b h =
-    go (isOpen a q) ∙ ap (λ (c : Bool). cond c (union stateWidth (without stateWidth (openSet a) q) (openSet b)) (openSet a)) (sym (has-openSet a q h))
-  where
-    go : (c : Bool) → setOf stateWidth (λ p. cond c ((isOpen a p && not (eqb p q)) || isOpen b p) (isOpen a p))
-        ≡ cond c (union stateWidth (without stateWidth (openSet a) q) (openSet b)) (openSet a)
-    go true = sym (ap (λ (n : ℕ). union stateWidth n (openSet b)) (without-tests stateWidth (λ p. isOpen a p) q) ∙ union-tests stateWidth (λ p. isOpen a p && not (eqb p q)) (λ p. isOpen b p))
-    go false = refl
-
--- the open set of a symbol's children
-pub openSet-none : (f : ℕ) → openSet (symbolᴱ f []ᴱ) ≡ emptySet stateWidth
-unfolding openSet emptySet
-openSet-none f = refl
-
-pub openSet-more : (f : ℕ) (e : Expr) (es : Exprs) → openSet (symbolᴱ f (e ∷ᴱ es)) ≡ union stateWidth (openSet e) (openSet (symbolᴱ f es))
-unfolding openSet
-openSet-more f e es = sym (union-tests stateWidth (λ p. isOpen e p) (λ p. isOpenIn es p))
-
--- the same for one, two and three children, as the node table has them
-or-false : (b : Bool) → (b || false) ≡ b
-or-false true = refl
-or-false false = refl
-
-pub openSet-one : (f : ℕ) (a : Expr) → openSet (symbolᴱ f (a ∷ᴱ []ᴱ)) ≡ openSet a
-unfolding openSet
-openSet-one f a = setOf-same stateWidth (λ p. isOpen a p || false) (λ p. isOpen a p) (λ p h. or-false (isOpen a p))
-
-pub openSet-two : (f : ℕ) (a b : Expr) → openSet (symbolᴱ f (a ∷ᴱ b ∷ᴱ []ᴱ)) ≡ union stateWidth (openSet a) (openSet b)
-openSet-two f a b = openSet-more f a (b ∷ᴱ []ᴱ) ∙ ap (union stateWidth (openSet a)) (openSet-one f b)
-
-pub openSet-three : (f : ℕ) (a b c : Expr) → openSet (symbolᴱ f (a ∷ᴱ b ∷ᴱ c ∷ᴱ []ᴱ)) ≡ union stateWidth (openSet a) (union stateWidth (openSet b) (openSet c))
-openSet-three f a b c = openSet-more f a (b ∷ᴱ c ∷ᴱ []ᴱ) ∙ ap (union stateWidth (openSet a)) (openSet-two f b c)

@@ -1,12 +1,10 @@
 -- Membership in the sets that are made, over the width: for sets that are within it, without a bound on the member.
-use Prim.Native.Nat.{ℕ, _^_, _<_, _%_, _≤_}
-use native.Mathlib.Nat.{mod-eq-of-lt, mod-lt}
-use mathlib.Core.Path.{_≡_, refl, sym, _∙_, ap}
-use mathlib.Core.Bool.{Bool, true, false, not, _&&_, _||_}
-use lib.Dec.{eqb, ltb}
-use lib.Pow.{pow-pos}
+use Prim.Native.Nat.{ℕ, _^_, _<_, _%_}
+use mathlib.Core.Path.{_≡_, sym, _∙_, ap}
+use mathlib.Core.Bool.{Bool, false, not, _&&_, _||_}
+use lib.Dec.{eqb}
 use borrow.Author.Tests.{lt-ltb}
-use Rattle.sets.specs.Members.{has, setOf, emptySet, oneSet, union, without}
+use Rattle.sets.specs.Members.{has, emptySet, oneSet, union, without}
 use Rattle.sets.proofs.Bits.{has-or, has-cleared, has-zero, has-pow, has-setOf, setOf-lt, setOf-same, setOf-has, shifted, one-shifted, empty-zero, union-or, without-cleared}
 
 module _ (width : ℕ) where

@@ -1,21 +1,21 @@
 -- The laws of soundness: a table is sound node by node, each over those before it; a made node keeps it sound, and unfolds to the expression of its shape.
-use Prim.Native.Nat.{ℕ, zero, suc, _+_, _*_, _<_, _≤_}
+use Prim.Native.Nat.{ℕ, suc, _+_, _<_}
 use native.Mathlib.Omega.{arith}
-use native.Mathlib.Nat.{lt-of-lt-of-le}
 use native.Mathlib.Decide.{decLt}
-use mathlib.Core.Path.{_≡_, refl, sym, _∙_, ap, ap₂, subst, subst₂}
+use mathlib.Core.Path.{_≡_, refl, _∙_, ap, subst}
 use mathlib.Core.List.{List, [], _∷_, _++_}
-use lib.ListN.{length, getD, take, length-append, List·getD-append}
+use lib.ListN.{length, take, length-append, List·getD-append}
 use lib.Seq.{getD-append-seam, take-append-le, take-append-seam, length-take-le, getD-take}
 use Rattle.automaton.specs.Held.{All}
 use Rattle.expressions.specs.Nodes.{Shape, Node, Table, noNode, nodeAt, children}
-use Rattle.expressions.specs.Words.{nodeWidth, tableOf, putNode}
+use Rattle.expressions.specs.Words.{tableOf, putNode}
 use Rattle.expressions.specs.Unfolding.{built, exprAt}
 use Rattle.expressions.specs.Soundness.{Fits, opensOf, opensIn, completed, SoundNode, SoundNodes, Sound}
 use Rattle.expressions.specs.Making.{Room}
-use Rattle.expressions.proofs.Lists.{all-map, map-same}
+use Rattle.trees.proofs.Lists.{all-map}
+use Rattle.expressions.proofs.Lists.{map-same}
 use Rattle.expressions.proofs.Words.{table-put, length-put, length-table}
-use Rattle.expressions.proofs.Unfolding.{expr-append, expr-new, expr-at, expr-take, built-same}
+use Rattle.expressions.proofs.Unfolding.{expr-new, expr-at, expr-take, built-same}
 
 pub sound-none : SoundNodes []
 unfolding SoundNodes

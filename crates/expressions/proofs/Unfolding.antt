@@ -1,11 +1,11 @@
 -- The laws of the expression that a node unfolds to: nodes appended change no earlier expression, and a node's expression is built from those of its children.
-use Prim.Native.Nat.{ℕ, zero, suc, _+_, _<_, _≤_}
+use Prim.Native.Nat.{ℕ, suc, _+_, _<_, _≤_}
 use native.Mathlib.Omega.{arith}
 use mathlib.Core.Path.{_≡_, refl, sym, _∙_, ap}
 use mathlib.Core.List.{List, [], _∷_, _++_, map}
 use lib.ListN.{length, getD, take, drop, length-append, List·getD-append, take-append-drop}
 use lib.Seq.{getD-at, length-take-le, split-at, append-snoc}
-use Rattle.expressions.specs.Expressions.{Expr, Exprs, emptyᴱ, holeᴱ, symbolᴱ, altᴱ, catᴱ, iterᴱ, []ᴱ, _∷ᴱ_}
+use Rattle.expressions.specs.Expressions.{Expr, emptyᴱ, holeᴱ, symbolᴱ, altᴱ, catᴱ, iterᴱ}
 use Rattle.automaton.specs.Held.{All}
 use Rattle.expressions.specs.Nodes.{Shape, Node, Table, emptyShape, holeShape, symbolShape, altShape, catShape, iterShape, noNode, nodeAt, symbolOf, arityOf, childCount, children}
 use Rattle.expressions.specs.Unfolding.{exprsOf, builtOf, built, unfolded, exprAt}

@@ -5,9 +5,9 @@ use native.Mathlib.Decide.{decLt}
 use native.Mathlib.Nat.{add-zero}
 use mathlib.Core.Path.{_≡_, refl, sym, _∙_, ap, ap₂}
 use mathlib.Core.List.{List, [], _∷_, _++_, append-assoc, append-nil}
-use lib.ListN.{length, getD, set, take, drop, length-append, length-drop, List·getD-append, take-append-drop}
-use lib.Seq.{sets, sets-eq, getD-append-seam, getD-drop, getD-take, ext-getD, take-at, drop-at, drop-drop, length-take-le, take-append-le, take-all, split-at, take-take, take-add}
-use Rattle.expressions.specs.Nodes.{Shape, Node, Table, noNode, nodeAt}
+use lib.ListN.{length, getD, set, take, drop, length-append, length-drop, List·getD-append}
+use lib.Seq.{sets-eq, getD-append-seam, getD-drop, getD-take, ext-getD, take-at, drop-at, drop-drop, length-take-le, take-all, take-add}
+use Rattle.expressions.specs.Nodes.{Node, Table, noNode, nodeAt}
 use Rattle.expressions.specs.Words.{nodeWidth, encode, decode, readNode, tableOf, wordsOf, putNode}
 
 -- ---- one node

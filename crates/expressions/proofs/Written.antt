@@ -1,5 +1,5 @@
 -- The laws of written-out sizes: holding at each node is holding at the end, and the sizes of a table grow node by node.
-use Prim.Native.Nat.{ℕ, zero, suc, _+_, _<_, _≤_, min}
+use Prim.Native.Nat.{ℕ, zero, suc, _+_, _<_, _≤_}
 use native.Mathlib.Omega.{arith}
 use native.Mathlib.Numerals.{add-one}
 use mathlib.Core.Path.{_≡_, refl, sym, _∙_, ap}
@@ -10,15 +10,15 @@ use lib.ListN.{length, getD, set, take, drop, length-map, List·getD-append}
 use lib.Seq.{set-at, drop-cons, append-snoc}
 use borrow.Author.Tests.{lt-ltb}
 use Rattle.automaton.specs.Held.{All}
-use Rattle.expressions.specs.declared.Measured.{Measured}
-use Rattle.expressions.specs.Expressions.{Expr, Exprs, emptyᴱ}
+use Rattle.expressions.specs.Expressions.{Expr, emptyᴱ}
 use Rattle.expressions.specs.Nodes.{Shape, Node, Table, arityOf, childCount, children}
 use Rattle.expressions.specs.Words.{readNode, tableOf}
 use Rattle.expressions.specs.Unfolding.{exprsOf, builtOf, built, unfolded, exprAt}
 use Rattle.expressions.specs.Soundness.{Fits, Sound}
 use Rattle.expressions.specs.Sizes.{writtenSize, writtenSizes, held, heldSize, sumAll, sizeOver, sizesOf}
 use Rattle.expressions.specs.Answers.{Measures, measured}
-use Rattle.expressions.proofs.Lists.{all-map, map-same}
+use Rattle.trees.proofs.Lists.{all-map}
+use Rattle.expressions.proofs.Lists.{map-same}
 use Rattle.expressions.proofs.Words.{length-table, table-more}
 use Rattle.expressions.proofs.Unfolding.{length-unfolded, unfolded-snoc}
 

@@ -1,9 +1,10 @@
 -- Document 01, "The node table", "Measuring and listing" and "Refusal numbers": what `is_sound`, `measure` and `list` promise, of what they are lent and answer.
 use Prim.Native.Nat.{ℕ, _≤_, _<_}
 use mathlib.Core.Path.{_≡_}
-use mathlib.Core.Bool.{Bool, true}
+use mathlib.Core.Bool.{Bool}
 use mathlib.Core.List.{List, _++_}
 use lib.ListN.{length, drop}
+use Rattle.automaton.specs.Decides.{Decides}
 use Rattle.expressions.specs.declared.Measured.{Measured}
 use Rattle.expressions.specs.declared.Listed.{Listed}
 use Rattle.expressions.specs.Words.{tableOf}
@@ -11,11 +12,6 @@ use Rattle.expressions.specs.Unfolding.{exprAt}
 use Rattle.expressions.specs.Soundness.{Sound}
 use Rattle.expressions.specs.Sizes.{heldSize, sizesOf}
 use Rattle.expressions.specs.Listing.{plainLabel, listing}
-
--- the answer is yes exactly when the claim holds
-pub record Decides (claim : Type 0) (answer : Bool) : Type 0 where
-  pub only : answer ≡ true → claim
-  pub always : claim → answer ≡ true
 
 -- "The check says yes exactly then; it refuses nothing."
 abbrev pub SoundAnswer : List ℕ → ℕ → ℕ → Bool → Type 0

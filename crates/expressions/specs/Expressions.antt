@@ -4,7 +4,6 @@ use mathlib.Core.Path.{_≡_}
 use mathlib.Core.Bool.{Bool, false, cond, not, _&&_, _||_}
 use mathlib.Core.Logic.{_⊎_}
 use lib.Dec.{eqb}
-use Rattle.sets.specs.Members.{setOf, stateWidth}
 use Rattle.trees.specs.Trees.{Tree, Forest, hole, node, []ᶠ, _∷ᶠ_}
 use Rattle.expressions.specs.Fillings.{Language, Filled, Only}
 
@@ -63,7 +62,3 @@ abbrev mutual
   pub isOpenIn : Exprs → ℕ → Bool
   isOpenIn []ᴱ p = false
   isOpenIn (e ∷ᴱ es) p = isOpen e p || isOpenIn es p
-
--- the open set, as a set of states
-unfoldable pub openSet : Expr → ℕ
-openSet e = setOf stateWidth (λ p. isOpen e p)

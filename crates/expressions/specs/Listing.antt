@@ -3,7 +3,7 @@ use Prim.Native.Nat.{ℕ, zero, suc, _+_, _/_, _%_}
 use mathlib.Core.Bool.{cond}
 use mathlib.Core.List.{List, [], _∷_, _++_, map}
 use lib.Dec.{ltb}
-use Rattle.expressions.specs.Nodes.{Shape, Node, Table, symbolOf, children}
+use Rattle.expressions.specs.Nodes.{Shape, Table, symbolOf, children}
 
 -- a number in decimal, the digits as bytes, 48 for 0; one turn for each number up to it is enough
 unfoldable pub decimalIn : ℕ → ℕ → List ℕ

@@ -3,7 +3,7 @@ use Prim.Native.Nat.{ℕ, zero, suc}
 use mathlib.Core.List.{List, [], _∷_, _++_, map}
 use lib.ListN.{getD}
 use Rattle.expressions.specs.Expressions.{Expr, Exprs, emptyᴱ, holeᴱ, symbolᴱ, altᴱ, catᴱ, iterᴱ, []ᴱ, _∷ᴱ_}
-use Rattle.expressions.specs.Nodes.{Shape, Node, Table, symbolOf, children}
+use Rattle.expressions.specs.Nodes.{Shape, Table, symbolOf, children}
 
 unfoldable pub exprsOf : List Expr → Exprs
 exprsOf [] = []ᴱ

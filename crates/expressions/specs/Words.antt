@@ -2,7 +2,7 @@
 use Prim.Native.Nat.{ℕ, zero, suc, _*_}
 use mathlib.Core.List.{List, [], _∷_, _++_}
 use lib.ListN.{getD, take, drop}
-use Rattle.expressions.specs.Nodes.{Shape, Node, Table}
+use Rattle.expressions.specs.Nodes.{Node, Table}
 
 -- the words of a node
 abbrev pub nodeWidth : ℕ

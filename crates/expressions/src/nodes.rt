@@ -10,7 +10,7 @@ ghost use Rattle.automaton.specs.Held.{All};
 ghost use Rattle.expressions.specs.Nodes.{shapeOf, childCount, children};
 ghost use Rattle.expressions.specs.Words.{nodeWidth, readNode, tableOf, putNode};
 ghost use Rattle.expressions.specs.Soundness.{Labelled, Fits, unionAll, catOpens, opensIn, SoundNode};
-ghost use Rattle.expressions.specs.Answers.{Decides};
+ghost use Rattle.automaton.specs.Decides.{Decides};
 use crate::NODE_WIDTH;
 use sets::StateSet;
 

@@ -1,4 +1,3 @@
-pub mod Faults
 pub mod Refused
 pub mod Outcomes
 pub mod Room

@@ -7,6 +7,7 @@ use mathlib.Core.List.{List, _++_}
 use mathlib.Core.Logic.{inl, inr}
 use lib.ListN.{length, drop, replicate}
 use Rattle.automaton.specs.Held.{Held}
+use Rattle.automaton.proofs.Faults.{fault-number, fault-some}
 use Rattle.automaton.specs.Checks.{Verdict, holds, fault, verdict}
 use Rattle.expressions.specs.Nodes.{Table}
 use Rattle.expressions.specs.Words.{nodeWidth, tableOf}
@@ -17,13 +18,11 @@ use Rattle.expressions.proofs.Words.{table-words}
 use Rattle.elimination.specs.declared.Wholly.{Wholly}
 use Rattle.elimination.specs.Stages.{converted}
 use Rattle.elimination.specs.Answers.{wholeNodes, writtenTo, allZero, refusedWhole, whollyDone, WhollyAnswered}
-use Rattle.elimination.proofs.Files.{fault-some}
 use Rattle.elimination.proofs.Outcomes.{wholly-sound}
 use Rattle.front.specs.declared.Printing.{Printing}
 use Rattle.front.specs.Text.{refusedLine, convertedListing, textOf, printedText}
 use Rattle.front.specs.Answers.{nodesMade, TooShort, nodesLeft, printing, Prints}
 use Rattle.front.specs.Inside.{Refuses}
-use Rattle.front.proofs.Faults.{fault-few}
 use Rattle.front.proofs.Refused.{refused-length}
 
 -- ---- what a verdict says of the text and the words
@@ -47,7 +46,7 @@ module _ (file : List ℕ) (number offset : ℕ) (e : verdict file ≡ fault num
   made-fault = ap nodesMade e
 
   pub text-fault-length : length (printedText file) ≡ 10
-  text-fault-length = let few = fault-few file number offset e in ap length text-fault ∙ refused-length number (omega arith)
+  text-fault-length = let few = fault-number file number offset e .1 in ap length text-fault ∙ refused-length number (omega arith)
 
 -- ---- too short, or not
 
@@ -89,9 +88,9 @@ module _ (file nodes out : List ℕ) where
 -- ---- each way to an answer, after the conversion
 
 module _ (file nodes after : List ℕ) (r : Wholly) (w : WhollyAnswered file nodes after r) where
-  fault-number : (number offset : ℕ) → verdict file ≡ fault number offset → r .refusal .number ≡ number
+  fault-given : (number offset : ℕ) → verdict file ≡ fault number offset → r .refusal .number ≡ number
   unfolding refusedWhole
-  fault-number number offset e = ap (λ (a : Wholly). a .refusal .number) (w .faulty number offset e .0)
+  fault-given number offset e = ap (λ (a : Wholly). a .refusal .number) (w .faulty number offset e .0)
 
   short-number : (held : Held) → verdict file ≡ holds held → wholeNodes nodes < length (converted held .table) → r .refusal .number ≡ 6
   unfolding refusedWhole
@@ -111,7 +110,7 @@ module _ (file nodes after : List ℕ) (r : Wholly) (w : WhollyAnswered file nod
 
       go : (v : Verdict) → verdict file ≡ v → Prints file nodes after out out (printing 6 0)
       go (holds held) e = room held e (decLt (wholeNodes nodes) (length (converted held .table)))
-      go (fault number offset) e = absurd (omega (arith, fault-number number offset e, fault-few file number offset e))
+      go (fault number offset) e = absurd (omega (arith, fault-given number offset e, fault-number file number offset e .1))
 
   -- the file is refused
   module _ (some : r .refusal .number ≡ 0 → ⊥) (other : r .refusal .number ≡ 6 → ⊥) where
@@ -124,7 +123,7 @@ module _ (file nodes after : List ℕ) (r : Wholly) (w : WhollyAnswered file nod
       where
         go : (v : Verdict) → verdict file ≡ v → r .refusal .number < 10
         go (holds held) e = absurd (not-held held e (decLt (wholeNodes nodes) (length (converted held .table))))
-        go (fault number offset) e = omega (arith, fault-number number offset e, fault-few file number offset e)
+        go (fault number offset) e = omega (arith, fault-given number offset e, fault-number file number offset e .1)
 
     module _ (left out bytes : List ℕ) (p : Printing) (x : Refuses (r .refusal .number) after left out bytes p) where
       pub prints-refused : Prints file nodes left out bytes p
@@ -142,7 +141,7 @@ module _ (file nodes after : List ℕ) (r : Wholly) (w : WhollyAnswered file nod
               let same = w .faulty number offset e .1 in
               let l = text-fault-length file number offset e in
               let n = room-both file nodes out (omega (arith, made-fault file number offset e)) (omega arith) in
-              let line = ap refusedLine (fault-number number offset e) ∙ sym (text-fault file number offset e) in
+              let line = ap refusedLine (fault-given number offset e) ∙ sym (text-fault file number offset e) in
               record {
                 short = λ t. absurd (n t);
                 done = λ _. (
@@ -166,7 +165,7 @@ module _ (file nodes after : List ℕ) (r : Wholly) (w : WhollyAnswered file nod
 
         go : (v : Verdict) → verdict file ≡ v → C
         go (holds held) e = room held e (decLt (wholeNodes nodes) (length (converted held .table)))
-        go (fault number offset) e = absurd (fault-some file number offset e (sym (fault-number number offset e) ∙ zero))
+        go (fault number offset) e = absurd (fault-some file number offset e (sym (fault-given number offset e) ∙ zero))
 
     module _ (out bytes : List ℕ) (l : Listed) (x : Lists after (r .nodes) (r .answer) out bytes l) where
       module _ (held : Held) (e : verdict file ≡ holds held) (fits : length (converted held .table) ≤ wholeNodes nodes) where

@@ -1,10 +1,9 @@
 -- The laws of sets as numbers, over the width: what is in a set that is made, that two sets with the same members are one number, and that the machine's operations make the sets that are meant.
 use mathlib.Core.Path.{_≡_, refl, sym, ap, ap₂, _∙_}
-use mathlib.Core.Bool.{Bool, true, false, cond, not, _&&_, _||_}
-use mathlib.Core.Logic.{_⊎_, inl, inr}
-use Prim.Native.Nat.{ℕ, zero, suc, _+_, _*_, _/_, _%_, _^_, _≤_, _<_, min, max}
+use mathlib.Core.Bool.{Bool, true, false, cond, not, _&&_, _||_, or-false}
+use Prim.Native.Nat.{ℕ, zero, suc, _+_, _*_, _%_, _^_, _≤_, _<_, min, max}
 use native.Mathlib.Nat.{mod-lt, mod-one, one-mul, zero-mul, add-comm, add-zero, pow-suc, mod-eq-of-lt, lt-irrefl}
-use native.Mathlib.Numerals.{add-one, one-add}
+use native.Mathlib.Numerals.{one-add}
 use native.Mathlib.Omega.{arith}
 use lib.Dec.{ltb, eqb}
 use lib.Pow.{pow-pos, pow-lt, mod-pow-add}
@@ -95,15 +94,11 @@ setOf-same (suc width) test other e =
     ap₂ _+_ (setOf-same width test other (λ i h. e i (omega arith))) (ap (λ (b : Bool). cond b (2 ^ width) 0) (e width (omega arith)))
 
 -- membership in it: one more bit on top
-or-false : (b : Bool) → b ≡ (b || false)
-or-false true = refl
-or-false false = refl
-
 with-top : (width low i : ℕ) (b : Bool) → low < 2 ^ width → has (low + cond b (2 ^ width) 0) i ≡ (has low i || (b && eqb i width))
 with-top width low i true h =
     ap (λ (n : ℕ). has n i) (add-comm low (2 ^ width) ∙ sym (rw one-mul at (or-shifted-r 1 width low h)))
     ∙ has-or low (2 ^ width) i ∙ ap (λ (b : Bool). has low i || b) (has-pow width i)
-with-top width low i false h = ap (λ (n : ℕ). has n i) (add-zero low) ∙ or-false (has low i)
+with-top width low i false h = ap (λ (n : ℕ). has n i) (add-zero low) ∙ sym (or-false (has low i))
 
 and-true : (b : Bool) → b ≡ (b && true)
 and-true true = refl

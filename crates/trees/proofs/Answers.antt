@@ -22,7 +22,7 @@ use Rattle.trees.specs.Words.{prefix, OfKnown, KnownIn, arityIn, mostWor
 use Rattle.trees.specs.Runs.{Reaches, Accepted}
 use Rattle.trees.specs.Promises.{noRun, RunOf, RunPromise, StatesOf, ProductivePromise}
 use Rattle.trees.specs.Piles.{meets, Pile, broken, pile, pileOf, runTo, pileAnswer, wordsAnswer}
-use Rattle.trees.proofs.Truth.{and-parts, and-both, same-test}
+use Rattle.automaton.proofs.Truth.{and-parts, and-both, same-test}
 use Rattle.trees.proofs.Lists.{below-pick, below-some}
 use Rattle.trees.proofs.Reaching.{reachedSet, holds-set, valid-aimed}
 use Rattle.trees.proofs.Piling.{pile-of-tree, tree-of-pile}

@@ -1,22 +1,23 @@
 -- A scan of the columns finds what the rows give: its set is the set that a symbol reaches over the sets at its child places.
-use Prim.Native.Nat.{ℕ, zero, suc, _^_, _<_, _≤_}
+use Prim.Native.Nat.{ℕ, _^_, _<_, _≤_}
 use native.Mathlib.Decide.{decLt}
 use native.Mathlib.Omega.{arith}
-use mathlib.Core.Bool.{Bool, true, false, false≢true, cond, _&&_}
+use mathlib.Core.Bool.{Bool, true, false, false≢true, cond, _&&_, and-true}
 use mathlib.Core.Path.{_≡_, refl, sym, _∙_, ap, ap₂}
 use mathlib.Core.List.{List, [], _∷_, map, List·Memᴰ}
 use lib.Dec.{ltb, eqb}
-use lib.ListN.{length, getD, take, List·getD-eq-default}
+use lib.ListN.{length, getD, take, length-map, List·getD-eq-default}
 use borrow.Author.Tests.{eqb-true, lt-ltb}
 use Rattle.sets.specs.Members.{has, setOf, stateWidth}
 use Rattle.sets.proofs.Bits.{has-pow, has-zero, has-setOf}
-use Rattle.automaton.specs.Held.{Rule, Held, All, ValidRule, Valid}
+use Rattle.automaton.specs.Held.{Rule, Held, ValidRule, Valid}
 use Rattle.trees.specs.declared.columns.Columns.{Columns}
 use Rattle.trees.specs.Words.{arityIn}
 use Rattle.trees.specs.Piles.{any, anyBelow, eachIn, gives, reachedFrom}
 use Rattle.trees.specs.Columns.{need, column, Tabled, Targets, within, fires, Scanned}
-use Rattle.trees.proofs.Truth.{and-parts, and-both, and-true, same-test, eqb-turned}
-use Rattle.trees.proofs.Lists.{any-pick, any-mem, any-same, below-pick, below-some, all-mem, member-at, place-of, length-map, getD-map-inside, getD-filled}
+use Rattle.automaton.proofs.Files.{all-get}
+use Rattle.automaton.proofs.Truth.{and-parts, and-both, same-test, eqb-turned}
+use Rattle.trees.proofs.Lists.{any-pick, any-mem, any-same, below-pick, below-some, of-all, member-at, place-of, getD-map-inside, getD-filled}
 use Rattle.trees.proofs.Reaching.{Aimed, valid-aimed}
 use Rattle.trees.proofs.Answers.{one-set}
 use Rattle.trees.proofs.Scanning.{within-none, within-one}
@@ -28,7 +29,7 @@ module _ (rules : List Rule) (few : length rules ≤ 64) (f : Rule → ℕ) (i :
 
   column-past : i < 64 → length rules ≤ i → getD (column f rules) i 0 ≡ 0
   unfolding column
-  column-past h past = getD-filled 64 0 (map f rules) i 0 h ∙ List·getD-eq-default (map f rules) 0 (omega (arith, length-map f rules))
+  column-past h past = getD-filled 64 0 (map f rules) i 0 h ∙ List·getD-eq-default (map f rules) 0 (omega (arith, length-map rules f))
 
 -- ---- what a scan finds
 
@@ -123,23 +124,18 @@ reached-number rules f r sets aimed e = one-set r (setOf stateWidth test) (λ q.
         let rule = p .0 in
         let aims = and-parts (eqb (rule .target) q) (eachIn (rule .sources) sets) (and-parts (eqb (rule .symbol) f) (eqb (rule .target) q && eachIn (rule .sources) sets) (p .2) .1) in
         let same : rule .target ≡ q = eqb-true (rule .target) q (aims .0) in
-        let small : rule .target < stateWidth = all-mem (λ y. y .target < stateWidth) rule rules (p .1) aimed in
+        let small : rule .target < stateWidth = of-all (λ y. y .target < stateWidth) rules aimed (p .1) in
         has-setOf stateWidth test q ∙ and-both (ltb q stateWidth) (test q) (lt-ltb q stateWidth (omega arith)) (sym (e q) ∙ h)
 
     back : (q : ℕ) → has (setOf stateWidth test) q ≡ true → has r q ≡ true
     back q h = e q ∙ and-parts (ltb q stateWidth) (test q) (sym (has-setOf stateWidth test q) ∙ h) .1
 
-small-arity : (xs : List ℕ) (f : ℕ) → All (λ a. a ≤ 3) xs → getD xs f 0 ≤ 3
-small-arity [] f a = omega arith
-small-arity (x ∷ xs) zero a = a .0
-small-arity (x ∷ xs) (suc f) a = small-arity xs f (a .1)
-
 pub arity-three : (held : Held) (f : ℕ) → Valid held → arityIn held f ≤ 3
-arity-three held f v = small-arity (held .arities) f (v .small-arities)
+arity-three held f v = all-get (λ a. a ≤ 3) (held .arities) f (omega arith) (v .small-arities)
 
 module _ (held : Held) (v : Valid held) where
   pub valid-member : (rule : Rule) → List·Memᴰ rule (held .rules) → ValidRule (held .states) (held .arities) rule
-  valid-member rule m = all-mem (ValidRule (held .states) (held .arities)) rule (held .rules) m (v .valid-rules)
+  valid-member rule m = of-all (ValidRule (held .states) (held .arities)) (held .rules) (v .valid-rules) m
 
   -- the scan of a symbol's rows, over the sets of its subtrees
   pub scan-reached : (t : Columns) → Tabled (held .rules) t → (f a b c r : ℕ)

@@ -1,4 +1,3 @@
-pub mod Truth
 pub mod Lists
 pub mod Spelling
 pub mod Reaching
@@ -10,5 +9,4 @@ pub mod Tabling
 pub mod Firing
 pub mod Stacking
 pub mod Producing
-pub mod Files
 pub mod Promised

@@ -2,16 +2,16 @@
 use Prim.Native.Nat.{ℕ, zero, suc, _+_, _-_, _<_}
 use native.Mathlib.Decide.{decLt}
 use native.Mathlib.Omega.{arith}
-use mathlib.Core.Bool.{Bool, true, false, false≢true, _||_}
+use mathlib.Core.Bool.{Bool, true, false, false≢true, _||_, or-false, or-assoc}
 use mathlib.Core.Logic.{_⊎_, inl, inr}
 use mathlib.Core.Path.{_≡_, refl, sym, _∙_, ap, ap₂, subst}
-use mathlib.Core.List.{List, [], _∷_, _++_, map, append-assoc, List·Memᴰ, List·Memᴰ·head, List·Memᴰ·tail, List·Memᴰ·cases-cons}
-use lib.ListN.{length, getD, take, replicate, length-append, length-take, length-replicate, getD-replicate, List·getD-append, List·getD-eq-default}
-use lib.Seq.{take-at, getD-take, getD-append-add}
+use mathlib.Core.List.{List, [], _∷_, _++_, map, List·Memᴰ, List·Memᴰ·head, List·Memᴰ·tail, List·Memᴰ·cases-cons}
+use lib.ListN.{length, getD, replicate, length-append, length-take, length-replicate, getD-replicate, List·getD-append, List·getD-eq-default}
+use lib.Seq.{getD-take, getD-append-add}
 use Rattle.automaton.specs.Held.{All}
 use Rattle.automaton.specs.Answers.{filled, firsts}
 use Rattle.trees.specs.Piles.{any, anyBelow}
-use Rattle.trees.proofs.Truth.{or-left, or-right, or-false, or-assoc}
+use Rattle.automaton.proofs.Truth.{or-left, or-right}
 
 -- ---- some element passes a test
 
@@ -67,23 +67,18 @@ below-some (suc n) test i h e = go (decLt i n) (λ l. below-some n test i l e)
 
 -- ---- each element
 
-module _ {A : Type 0} (P : A → Type 0) where
-  pub all-mem : (x : A) (xs : List A) → List·Memᴰ x xs → All P xs → P x
-  all-mem x [] m a = elim m [ ]
-  all-mem x (y ∷ ys) m a = go (List·Memᴰ·cases-cons m) (λ l. all-mem x ys l (a .1))
-    where
-      go : (x ≡ y) ⊎ List·Memᴰ x ys → (List·Memᴰ x ys → P x) → P x
-      go (inl d) later = rw d (a .0)
-      go (inr l) later = later l
+pub of-all : {A : Type 0} (P : A → Type 0) {x : A} (xs : List A) → All P xs → List·Memᴰ x xs → P x
+of-all P (y ∷ ys) a (List·Memᴰ·head e) = rw e (a .0)
+of-all P (y ∷ ys) a (List·Memᴰ·tail m) = of-all P ys (a .1) m
 
-  pub all-at : (xs : List A) (i : ℕ) (d : A) → i < length xs → All P xs → P (getD xs i d)
-  all-at [] i d h a = absurd (omega arith)
-  all-at (x ∷ xs) zero d h a = a .0
-  all-at (x ∷ xs) (suc i) d h a = all-at xs i d (omega arith) (a .1)
+pub all-at : {A : Type 0} (P : A → Type 0) (xs : List A) → All P xs → (i : ℕ) (d : A) → i < length xs → P (getD xs i d)
+all-at P [] a i d h = absurd (omega arith)
+all-at P (x ∷ xs) a zero d h = a .0
+all-at P (x ∷ xs) a (suc i) d h = all-at P xs (a .1) i d (omega arith)
 
-  pub all-map : (Q : A → Type 0) (xs : List A) → ((x : A) → P x → Q x) → All P xs → All Q xs
-  all-map Q [] f a = tt
-  all-map Q (x ∷ xs) f a = (f x (a .0), all-map Q xs f (a .1))
+pub all-map : {A : Type 0} {P Q : A → Type 0} (xs : List A) → ((x : A) → P x → Q x) → All P xs → All Q xs
+all-map [] f h = tt
+all-map (x ∷ xs) f h = (f x (h .0), all-map xs f (h .1))
 
 -- ---- places
 
@@ -109,14 +104,6 @@ module _ {A : Type 0} where
       go (inr l) later = let r = later l in (suc (r .0), omega (arith, r .1), r .2)
 
 module _ {A B : Type 0} (f : A → B) where
-  pub length-map : (xs : List A) → length (map f xs) ≡ length xs
-  length-map [] = refl
-  length-map (x ∷ xs) = ap suc (length-map xs)
-
-  pub map-append : (xs ys : List A) → map f (xs ++ ys) ≡ map f xs ++ map f ys
-  map-append [] ys = refl
-  map-append (x ∷ xs) ys = ap (f x ∷_) (map-append xs ys)
-
   pub getD-map-inside : (xs : List A) (i : ℕ) (d : A) (e : B) → i < length xs → getD (map f xs) i e ≡ f (getD xs i d)
   getD-map-inside [] i d e h = absurd (omega arith)
   getD-map-inside (x ∷ xs) zero d e h = refl
@@ -145,10 +132,3 @@ module _ {A : Type 0} (n : ℕ) (unused : A) (xs : List A) where
   pub length-firsts : length (firsts n unused xs) ≡ n
   unfolding firsts filled
   length-firsts = length-take n (xs ++ replicate (n - length xs) unused) ∙ simp (length-append, length-replicate) (omega arith)
-
--- a list that was put into an array comes back
-pub firsts-filled : {A : Type 0} (n m : ℕ) (unused : A) (xs : List A) → length xs ≡ n → firsts n unused (filled m unused xs) ≡ xs
-unfolding firsts filled
-firsts-filled n m unused xs e =
-    ap (take n) (append-assoc xs (replicate (m - length xs) unused) (replicate (n - length (xs ++ replicate (m - length xs) unused)) unused))
-    ∙ take-at xs (replicate (m - length xs) unused ++ replicate (n - length (xs ++ replicate (m - length xs) unused)) unused) n e

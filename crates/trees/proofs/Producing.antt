@@ -18,7 +18,7 @@ use Rattle.trees.specs.Words.{count, OfKnown, AllOfKnown, KnownIn, arity
 use Rattle.trees.specs.Runs.{Reaches, ReachesEach, Productive}
 use Rattle.trees.specs.Piles.{any, eachIn}
 use Rattle.trees.specs.Columns.{Tabled, Scanned}
-use Rattle.trees.proofs.Truth.{and-parts, and-both, or-right}
+use Rattle.automaton.proofs.Truth.{and-parts, and-both, or-right}
 use Rattle.trees.proofs.Lists.{any-pick, any-mem, all-map}
 use Rattle.trees.proofs.Firing.{met, met-each, scanned, arity-three, valid-member}
 
@@ -110,7 +110,7 @@ module _ (held : Held) (v : Valid held) (t : Columns) (tabled : Tabled (held .ru
           let r = and-parts (eqb (rule .target) q) (met rule have have have) (p .2) in
           let sources = met-all rule have (few-sources rule (p .1)) .0 (r .1) in
           subst (Productive (held .rules)) (eqb-true (rule .target) q (r .0))
-          (productive-closed (held .rules) rule (p .1) (all-map (λ x. has have x ≡ true) (Productive (held .rules)) (rule .sources) before sources))
+          (productive-closed (held .rules) rule (p .1) (all-map (rule .sources) before sources))
 
   -- a round that adds nothing leaves a closed set
   pub round-closed : bitOr have found ≡ have → Closed (held .rules) (λ q. has have q ≡ true)

@@ -1,6 +1,5 @@
 -- The promises are kept: by the answer for a file that is refused, and by the answer for what a file holds. And the answer of a run, computed from the file's bytes and the words alone.
 use Prim.Native.Nat.{ℕ}
-use native.Mathlib.Omega.{arith}
 use mathlib.Core.Path.{_≡_, refl, sym, _∙_, ap, subst}
 use mathlib.Core.List.{List}
 use Rattle.automaton.specs.declared.Automaton.{Automaton}
@@ -8,6 +7,8 @@ use Rattle.automaton.specs.declared.Reading.{Reading}
 use Rattle.automaton.specs.Held.{Held, Valid}
 use Rattle.automaton.specs.Checks.{Verdict, verdict, holds, fault}
 use Rattle.automaton.specs.Answers.{heldBy, readingOf, readAnswer}
+use Rattle.automaton.proofs.Faults.{fault-some, one-held, never-both}
+use Rattle.automaton.proofs.Laws.{held-placed}
 use Rattle.automaton.proofs.Pair.{verdict-valid}
 use Rattle.trees.specs.declared.ReachedStates.{ReachedStates}
 use Rattle.trees.specs.declared.ProductiveStates.{ProductiveStates}
@@ -16,14 +17,6 @@ use Rattle.trees.specs.Words.{IsTree, NoTree}
 use Rattle.trees.specs.Promises.{noRun, RunOf, RunPromise, noStates, StatesOf, ProductivePromise}
 use Rattle.trees.specs.Piles.{wordsAnswer}
 use Rattle.trees.proofs.Answers.{answer-no-tree, answer-tree, run-to, run-unique}
-use Rattle.trees.proofs.Files.{fault-some, held-back}
-
--- a file holds one thing, and has no fault then
-one-held : (file : List ℕ) (held other : Held) → verdict file ≡ holds held → verdict file ≡ holds other → held ≡ other
-one-held file held other d e = cc
-
-never-both : (file : List ℕ) (held : Held) (number offset : ℕ) → verdict file ≡ holds held → verdict file ≡ fault number offset → ⊥
-never-both file held number offset d e = let z : _≡_ {A = ℕ} 0 1 = cc in omega arith
 
 -- ---- the run
 
@@ -109,6 +102,6 @@ read-held file r e z = go (verdict file) refl
     go : (v : Verdict) → verdict file ≡ v → Handed file (r .automaton)
     go (holds held) d =
         let valid = verdict-valid file held d in
-        let said : heldBy (r .automaton) ≡ held = ap (λ (x : Reading). heldBy (x .automaton)) (e ∙ ap readingOf d) ∙ held-back held valid in
+        let said : heldBy (r .automaton) ≡ held = ap (λ (x : Reading). heldBy (x .automaton)) (e ∙ ap readingOf d) ∙ held-placed held valid in
         record { held = held; in-file = d; said = said; valid = rw said valid }
     go (fault number offset) d = absurd (fault-some file number offset d (sym (ap (λ (x : Reading). x .refusal .number) (e ∙ ap readingOf d)) ∙ z))

@@ -13,8 +13,8 @@ use Rattle.automaton.specs.Held.{Rule, Held, All, ValidRule, Valid}
 use Rattle.trees.specs.Trees.{Tree, Forest, hole, node, []ᶠ, _∷ᶠ_}
 use Rattle.trees.specs.Runs.{Reaches, ReachesEach}
 use Rattle.trees.specs.Piles.{any, eachIn, gives, reachedFrom}
-use Rattle.trees.proofs.Truth.{and-parts, and-both}
-use Rattle.trees.proofs.Lists.{any-pick, any-mem, all-mem}
+use Rattle.automaton.proofs.Truth.{and-parts, and-both}
+use Rattle.trees.proofs.Lists.{any-pick, any-mem, of-all}
 
 -- ---- sets of reached states
 
@@ -59,7 +59,7 @@ holds-node rules f ts xs aimed h q = (there, back)
     back : Reaches rules (node f ts) q → has (reachedFrom rules f xs) q ≡ true
     back r =
         let rule = r .0 in
-        let small : q < stateWidth = rw (r .3) at (all-mem (λ y. y .target < stateWidth) rule rules (r .1) aimed) in
+        let small : q < stateWidth = rw (r .3) at (of-all (λ y. y .target < stateWidth) rules aimed (r .1)) in
         let passes : gives f xs q rule ≡ true =
         and-both (eqb (rule .symbol) f) (eqb (rule .target) q && eachIn (rule .sources) xs) (eq-eqb (rule .symbol) f (r .2))
         (and-both (eqb (rule .target) q) (eachIn (rule .sources) xs) (eq-eqb (rule .target) q (r .3)) (each-in rules ts xs (rule .sources) h .1 (r .4)))

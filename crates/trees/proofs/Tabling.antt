@@ -2,12 +2,12 @@
 use Prim.Native.Nat.{ℕ, zero, suc, _+_, _-_, _^_, _<_, _≤_}
 use native.Mathlib.Numerals.{add-one}
 use native.Mathlib.Omega.{arith}
-use mathlib.Core.Bool.{Bool, true, false, _&&_, _||_}
+use mathlib.Core.Bool.{Bool, true, false, _&&_, _||_, or-false}
 use mathlib.Core.Path.{_≡_, refl, sym, _∙_, ap, ap₂}
-use mathlib.Core.List.{List, [], _∷_, _++_, map, append-assoc}
+use mathlib.Core.List.{List, [], _∷_, _++_, map, map-append, append-assoc}
 use lib.Bits.{bitOr}
 use lib.Dec.{eqb}
-use lib.ListN.{length, getD, set, take, replicate, getD-replicate}
+use lib.ListN.{length, getD, set, take, replicate, length-map, getD-replicate}
 use lib.Seq.{take-suc, set-at, length-take-le, getD-set-same, getD-set-other}
 use borrow.Author.Tests.{eqb-true, eqb-false}
 use Rattle.sets.specs.Members.{has}
@@ -16,8 +16,8 @@ use Rattle.automaton.specs.Held.{Rule}
 use Rattle.automaton.specs.Answers.{filled}
 use Rattle.trees.specs.Piles.{any}
 use Rattle.trees.specs.Columns.{column, Targets}
-use Rattle.trees.proofs.Truth.{or-false, eqb-turned}
-use Rattle.trees.proofs.Lists.{any-last, length-map, map-append}
+use Rattle.automaton.proofs.Truth.{eqb-turned}
+use Rattle.trees.proofs.Lists.{any-last}
 
 replicate-more : (n : ℕ) → 0 < n → replicate {A = ℕ} n 0 ≡ 0 ∷ replicate (n - 1) 0
 replicate-more zero h = absurd (omega arith)
@@ -26,8 +26,8 @@ replicate-more (suc n) h = let same : n ≡ suc n - 1 = omega arith in ap (λ (m
 column-more : (f : Rule → ℕ) (xs : List Rule) (rule : Rule) → length xs < 64 → set (column f xs) (length xs) (f rule) ≡ column f (xs ++ (rule ∷ []))
 unfolding column filled
 column-more f xs rule h =
-    let long : length (map f xs) ≡ length xs = length-map f xs in
-    let more : length (map f (xs ++ (rule ∷ []))) ≡ length xs + 1 = length-map f (xs ++ (rule ∷ [])) ∙ lib.ListN.length-append xs (rule ∷ []) in
+    let long : length (map f xs) ≡ length xs = length-map xs f in
+    let more : length (map f (xs ++ (rule ∷ []))) ≡ length xs + 1 = length-map (xs ++ (rule ∷ [])) f ∙ lib.ListN.length-append xs (rule ∷ []) in
     let left : 64 - length (map f xs) - 1 ≡ 64 - length (map f (xs ++ (rule ∷ []))) = omega arith in
     ap (λ (l : List ℕ). set (map f xs ++ l) (length xs) (f rule)) (replicate-more (64 - length (map f xs)) (omega arith))
     ∙ set-at (map f xs) 0 (replicate (64 - length (map f xs) - 1) 0) (f rule) (length xs) long

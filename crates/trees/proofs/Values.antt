@@ -6,7 +6,7 @@ use mathlib.Core.Bool.{Bool, true, false, cond}
 use mathlib.Core.Path.{_≡_, refl, sym, _∙_, ap}
 use mathlib.Core.List.{List, []}
 use lib.Dec.{ltb}
-use lib.ListN.{length, getD, take, replicate, List·getD-map, List·getD-eq-default}
+use lib.ListN.{length, getD, take, replicate, length-map, List·getD-map, List·getD-eq-default}
 use lib.Seq.{take-all}
 use borrow.Author.Tests.{ltb-true}
 use Rattle.automaton.specs.declared.Row.{Row}
@@ -14,7 +14,7 @@ use Rattle.automaton.specs.declared.Automaton.{Automaton}
 use Rattle.automaton.specs.Held.{Rule, ValidRule, Valid}
 use Rattle.automaton.specs.Answers.{firsts, unusedRow, ruleHeld, heldBy}
 use Rattle.trees.specs.Columns.{need}
-use Rattle.trees.proofs.Lists.{getD-inside, all-at, length-map, getD-firsts, length-firsts}
+use Rattle.trees.proofs.Lists.{getD-inside, all-at, getD-firsts, length-firsts}
 
 -- the row at an index, as the code reads it
 abbrev pub rowAt : Automaton → ℕ → Row
@@ -30,7 +30,7 @@ module _ (a : Automaton) where
 
   pub so-many-rows : length (heldBy a .rules) ≡ a .count
   unfolding heldBy
-  so-many-rows = length-map (ruleHeld (firsts (a .symbols) 0 (a .arities))) (firsts (a .count) unusedRow (a .rows)) ∙ length-firsts (a .count) unusedRow (a .rows)
+  so-many-rows = length-map (firsts (a .count) unusedRow (a .rows)) (ruleHeld (firsts (a .symbols) 0 (a .arities))) ∙ length-firsts (a .count) unusedRow (a .rows)
 
   pub all-rows : take (a .count) (heldBy a .rules) ≡ heldBy a .rules
   all-rows = take-all (a .count) (heldBy a .rules) (omega (arith, so-many-rows))
@@ -70,7 +70,7 @@ module _ (a : Automaton) where
     module _ (v : Valid (heldBy a)) where
       pub valid-at : ValidRule (heldBy a .states) (heldBy a .arities) (ruleAt a i)
       unfolding ruleAt
-      valid-at = all-at (ValidRule (heldBy a .states) (heldBy a .arities)) (heldBy a .rules) i (ruleHeld (heldBy a .arities) unusedRow) (omega (arith, so-many-rows)) (v .valid-rules)
+      valid-at = all-at (ValidRule (heldBy a .states) (heldBy a .arities)) (heldBy a .rules) (v .valid-rules) i (ruleHeld (heldBy a .arities) unusedRow) (omega (arith, so-many-rows))
 
       pub known-at : rowAt a i .symbol < a .symbols
       known-at = omega (arith, valid-at .known, so-many-symbols, symbol-at)
@@ -102,7 +102,7 @@ module _ (a : Automaton) where
 
       pub source-small : (place : ℕ) → place < getD (a .arities) (rowAt a i .symbol) 0 → getD (rowAt a i .sources) place 0 < 16
       source-small place l =
-          let h : getD (ruleAt a i .sources) place 0 < heldBy a .states = all-at (λ q. q < heldBy a .states) (ruleAt a i .sources) place 0 (omega (arith, suited-at)) (valid-at .sourced) in
+          let h : getD (ruleAt a i .sources) place 0 < heldBy a .states = all-at (λ q. q < heldBy a .states) (ruleAt a i .sources) (valid-at .sourced) place 0 (omega (arith, suited-at)) in
           omega (arith, h, v .few-states, source-at place l)
 
       -- what a row needs at a child place, as the code computes it

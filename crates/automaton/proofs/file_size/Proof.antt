@@ -2,6 +2,7 @@ use native.Mathlib.Omega.{arith}
 use mathlib.Core.Path.{_≡_, sym, _∙_}
 use lib.ListN.{length}
 use borrow.Author.Tests.{not-true, not-false}
+use Rattle.automaton.proofs.Deciding.{refuted}
 use Rattle.automaton.proofs.Writes.{size-few, size-many, size-past, size-none, size-symbols, size-rows, size-wide, size-unruled, size-is}
 use borrow.Author.Needs.{needs}
 use Rattle.automaton.proofs.file_size.Statement.{statement}
@@ -50,7 +51,7 @@ arities-fit-requires c κs = search needs
 
 -- src/lib.rt:146:9
 returns-7 : tie.Need-returns-7
-returns-7 c = size-wide (c .before .before .before .before .before .before .before .before .before .before .before .args .value) (let l : length (c .before .before .before .before .before .before .before .before .before .before .before .args .value .arities) ≡ 32 = search needs in omega arith) (c .before .arities-fit .ensures .not-so (not-true _ (c .if7 .taken)))
+returns-7 c = size-wide (c .before .before .before .before .before .before .before .before .before .before .before .args .value) (let l : length (c .before .before .before .before .before .before .before .before .before .before .before .args .value .arities) ≡ 32 = search needs in omega arith) (refuted (c .before .arities-fit .ensures) (not-true _ (c .if7 .taken)))
 
 -- src/lib.rt:149:41
 cast-rows-fit : tie.Need-cast-rows-fit
@@ -58,11 +59,11 @@ cast-rows-fit c = search needs
 
 -- src/lib.rt:149:9
 rows-fit-requires : tie.Need-rows-fit-requires
-rows-fit-requires c κs = (c .before .before .before .before .if6 .left, (c .before .before .before .before .before .if5 .left, c .before .before .arities-fit .ensures .yes-so (not-false _ (c .before .if7 .left))))
+rows-fit-requires c κs = (c .before .before .before .before .if6 .left, (c .before .before .before .before .before .if5 .left, c .before .before .arities-fit .ensures .only (not-false _ (c .before .if7 .left))))
 
 -- src/lib.rt:151:9
 returns-8 : tie.Need-returns-8
-returns-8 c = size-unruled (c .before .before .before .before .before .before .before .before .before .before .before .before .before .before .before .args .value) (let l : length (c .before .before .before .before .before .before .before .before .before .before .before .before .before .before .before .args .value .arities) ≡ 32 = search needs in omega arith) (omega (arith, c .before .before .rows-fit .ensures .0)) (c .before .before .rows-fit .ensures .1 .decided .not-so (not-true _ (c .if8 .taken)))
+returns-8 c = size-unruled (c .before .before .before .before .before .before .before .before .before .before .before .before .before .before .before .args .value) (let l : length (c .before .before .before .before .before .before .before .before .before .before .before .before .before .before .before .args .value .arities) ≡ 32 = search needs in omega arith) (omega (arith, c .before .before .rows-fit .ensures .0)) (refuted (c .before .before .rows-fit .ensures .1 .decided) (not-true _ (c .if8 .taken)))
 
 -- src/lib.rt:153:15
 cast-result : tie.Need-cast-result
@@ -82,7 +83,7 @@ add-result-2 c = omega (arith, c .before .before .before .rows-fit .ensures .1 .
 
 -- src/lib.rt:119:1
 returns-9 : tie.Need-returns-9
-returns-9 c = size-is (c .before .before .before .before .before .before .before .before .before .before .before .before .before .before .before .before .args .value) (let l : length (c .before .before .before .before .before .before .before .before .before .before .before .before .before .before .before .before .args .value .arities) ≡ 32 = search needs in omega arith) (omega (arith, c .before .before .before .rows-fit .ensures .0)) (c .before .before .before .before .before .before .before .before .before .before .before .before .before .before .if1 .left) (c .before .before .before .before .before .before .before .before .before .before .before .before .before .if2 .left) (sym (c .before .before .before .before .before .before .before .before .before .before .before .before .past .ensures) ∙ c .before .before .before .before .before .before .before .before .before .before .before .if3 .left) (c .before .before .before .before .before .before .before .before .before .before .if4 .left) (c .before .before .before .before .before .before .before .before .before .if5 .left) (c .before .before .before .before .before .before .before .before .if6 .left) (c .before .before .before .before .before .before .arities-fit .ensures .yes-so (not-false _ (c .before .before .before .before .before .if7 .left))) (c .before .before .before .rows-fit .result) (c .before .before .before .rows-fit .ensures .1) (not-false _ (c .before .if8 .left)) (c .before .before .before .rows-fit .ensures .0)
+returns-9 c = size-is (c .before .before .before .before .before .before .before .before .before .before .before .before .before .before .before .before .args .value) (let l : length (c .before .before .before .before .before .before .before .before .before .before .before .before .before .before .before .before .args .value .arities) ≡ 32 = search needs in omega arith) (omega (arith, c .before .before .before .rows-fit .ensures .0)) (c .before .before .before .before .before .before .before .before .before .before .before .before .before .before .if1 .left) (c .before .before .before .before .before .before .before .before .before .before .before .before .before .if2 .left) (sym (c .before .before .before .before .before .before .before .before .before .before .before .before .past .ensures) ∙ c .before .before .before .before .before .before .before .before .before .before .before .if3 .left) (c .before .before .before .before .before .before .before .before .before .before .if4 .left) (c .before .before .before .before .before .before .before .before .before .if5 .left) (c .before .before .before .before .before .before .before .before .if6 .left) (c .before .before .before .before .before .before .arities-fit .ensures .only (not-false _ (c .before .before .before .before .before .if7 .left))) (c .before .before .before .rows-fit .result) (c .before .before .before .rows-fit .ensures .1) (not-false _ (c .before .if8 .left)) (c .before .before .before .rows-fit .ensures .0)
 
 pub file-size-spec : {M : Type 1} → statement M
 file-size-spec =

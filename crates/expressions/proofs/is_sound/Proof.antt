@@ -5,7 +5,7 @@ use Prim.Native.Nat.{_≤_, _-_}
 use borrow.Author.Tests.{not-true, not-false}
 use Rattle.expressions.specs.Words.{tableOf}
 use Rattle.expressions.specs.Soundness.{SoundNodes}
-use Rattle.expressions.proofs.Deciding.{decides-no, decides-yes, refuted}
+use Rattle.automaton.proofs.Deciding.{decides-no, decides-yes, refuted}
 use Rattle.expressions.proofs.Checks.{sound-start, sound-more, sound-node}
 use Rattle.expressions.proofs.is_sound.Statement.{statement}
 use Rattle.expressions.proofs.is_sound.Tie as tie

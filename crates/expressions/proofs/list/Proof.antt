@@ -1,7 +1,7 @@
 -- `expressions::list` meets its contract: one law for each outcome.
 use native.Mathlib.Omega.{arith}
 use borrow.Author.Tests.{not-true, not-false}
-use Rattle.expressions.proofs.Deciding.{refuted}
+use Rattle.automaton.proofs.Deciding.{refuted}
 use Rattle.expressions.proofs.Listing.{lists-unsound, lists-short, lists-done}
 use borrow.Author.Needs.{needs}
 use Rattle.expressions.proofs.list.Statement.{statement}

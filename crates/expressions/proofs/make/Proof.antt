@@ -3,7 +3,7 @@ use native.Mathlib.Omega.{arith}
 use mathlib.Core.Path.{_∙_}
 use borrow.Author.Tests.{not-true, not-false}
 use Rattle.expressions.specs.Nodes.{shapeOf}
-use Rattle.expressions.proofs.Deciding.{refuted}
+use Rattle.automaton.proofs.Deciding.{refuted}
 use Rattle.expressions.proofs.Checks.{children-held, makes-unfit, makes-full, makes-done}
 use borrow.Author.Needs.{needs}
 use Rattle.expressions.proofs.make.Statement.{statement}

@@ -1,7 +1,7 @@
 -- `expressions::measure` meets its contract: one law for each outcome.
 use native.Mathlib.Omega.{arith}
 use borrow.Author.Tests.{not-true, not-false}
-use Rattle.expressions.proofs.Deciding.{refuted}
+use Rattle.automaton.proofs.Deciding.{refuted}
 use Rattle.expressions.proofs.Written.{measures-unsound, measures-short, measures-done}
 use borrow.Author.Needs.{needs}
 use Rattle.expressions.proofs.measure.Statement.{statement}

@@ -4,7 +4,8 @@ use mathlib.Core.Path.{_≡_}
 use lib.ListN.{take}
 use native.Mathlib.Nat.{le-antisymm}
 use Rattle.automaton.specs.Held.{All}
-use Rattle.automaton.proofs.Fits.{so, not-so, all-next, all-at}
+use Rattle.automaton.proofs.Deciding.{decides-yes, decides-no}
+use Rattle.automaton.proofs.Fits.{all-next, all-at}
 use borrow.Author.Needs.{needs}
 use Rattle.automaton.proofs.writer.arities_fit.Statement.{statement}
 use Rattle.automaton.proofs.writer.arities_fit.Tie as tie
@@ -27,7 +28,7 @@ array-read-if1 c = search needs
 
 -- src/writer.rt:31:13
 returns : tie.Need-returns Inv-loop μ-loop
-returns c = not-so (λ a. omega (arith, all-at (λ a. a ≤ 3) 0 (c .before .before .before .args .t1) (c .before .before .before .args .count) (c .before .before .loop .i) (c .before .loop-test .taken) (omega arith) a))
+returns c = decides-no (λ a. omega (arith, all-at (λ a. a ≤ 3) 0 (c .before .before .before .args .t1) (c .before .before .before .args .count) (c .before .before .loop .i) (c .before .loop-test .taken) (omega arith) a))
 
 -- src/writer.rt:33:9
 add-i : tie.Need-add-i Inv-loop μ-loop
@@ -43,7 +44,7 @@ loop-again c = (omega arith, all-next (λ a. a ≤ 3) 0 (c .before .before .befo
 
 -- src/writer.rt:24:1
 returns-2 : tie.Need-returns-2 Inv-loop μ-loop
-returns-2 c = let e : c .before .loop .i ≡ c .before .before .args .count = le-antisymm (c .before .loop .inv .0) (c .loop-test .left) in so (rw e at (c .before .loop .inv .1))
+returns-2 c = let e : c .before .loop .i ≡ c .before .before .args .count = le-antisymm (c .before .loop .inv .0) (c .loop-test .left) in decides-yes (rw e at (c .before .loop .inv .1))
 
 pub arities-fit-spec : {M : Type 1} → statement M
 arities-fit-spec =

@@ -4,7 +4,7 @@ use mathlib.Core.Path.{_≡_, refl, ap, _∙_}
 use mathlib.Core.List.{List}
 use Prim.Native.Nat.{ℕ}
 use lib.ListN.{length, set, take, getD, length-set}
-use lib.Seq.{sets, length-sets}
+use lib.Seq.{sets}
 use native.Mathlib.Nat.{le-antisymm}
 use Prim.Native.Nat.{_+_}
 use Rattle.automaton.proofs.Stores.{sources-put-next}

@@ -3,8 +3,8 @@ use Prim.Native.Nat.{_≤_, _-_}
 use mathlib.Core.Path.{_≡_, refl, ap, _∙_}
 use mathlib.Core.List.{List}
 use Prim.Native.Nat.{ℕ}
-use lib.ListN.{length, set, take, getD, length-set}
-use lib.Seq.{sets, length-sets}
+use lib.ListN.{length, take, getD}
+use lib.Seq.{sets}
 use native.Mathlib.Nat.{le-antisymm}
 use Prim.Native.Nat.{_+_, _*_}
 use Rattle.automaton.specs.File.{each, symbolRecord}

@@ -1,7 +1,7 @@
 -- `nodes::node_sound` meets its contract.
 use native.Mathlib.Omega.{arith}
 use borrow.Author.Tests.{not-true, not-false}
-use Rattle.expressions.proofs.Deciding.{refuted}
+use Rattle.automaton.proofs.Deciding.{refuted}
 use Rattle.expressions.proofs.Checks.{shapeAt, children-held, node-unfit, node-decided}
 use Rattle.expressions.proofs.nodes.node_sound.Statement.{statement}
 use Rattle.expressions.proofs.nodes.node_sound.Tie as tie

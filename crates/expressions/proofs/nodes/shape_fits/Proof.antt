@@ -1,6 +1,6 @@
 -- `nodes::shape_fits` meets its contract: the label and the three places decide.
 use borrow.Author.Tests.{not-true, not-false}
-use Rattle.expressions.proofs.Deciding.{decides-as, decides-no, refuted}
+use Rattle.automaton.proofs.Deciding.{decides-as, decides-no, refuted}
 use Rattle.expressions.proofs.Checks.{fits-of, first-ok, second-ok, third-ok}
 use Rattle.expressions.proofs.nodes.shape_fits.Statement.{statement}
 use Rattle.expressions.proofs.nodes.shape_fits.Tie as tie

@@ -2,7 +2,7 @@
 use native.Mathlib.Omega.{arith}
 use mathlib.Core.Path.{_∙_}
 use Rattle.expressions.specs.Nodes.{children}
-use Rattle.expressions.proofs.Lists.{all-map}
+use Rattle.trees.proofs.Lists.{all-map}
 use Rattle.expressions.proofs.Words.{read-words}
 use Rattle.expressions.proofs.Checks.{shapeAt}
 use Rattle.expressions.proofs.sizes.size_at.Statement.{statement}

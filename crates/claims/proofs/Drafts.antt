@@ -3,11 +3,11 @@ use Prim.Native.Nat.{ℕ, _^_}
 use native.Mathlib.Omega.{arith}
 use mathlib.Core.Path.{_≡_, refl, sym, _∙_, ap, subst}
 use mathlib.Core.Bool.{true}
-use mathlib.Core.List.{List, [], _∷_, map, List·Memᴰ, List·Memᴰ·head, List·Memᴰ·tail, List·Memᴰ·not-nil}
+use mathlib.Core.List.{List, [], _∷_, List·Memᴰ, List·Memᴰ·head, List·Memᴰ·tail, List·Memᴰ·not-nil}
 use mathlib.Core.Logic.{_⊎_, inl, inr, _↔_}
 use lib.ListN.{length}
 use borrow.Author.Tests.{eqb-true, eq-eqb}
-use Rattle.sets.specs.Members.{has, setOf, howMany, size, emptySet, oneSet, union, without}
+use Rattle.sets.specs.Members.{has, setOf, emptySet, oneSet, union, without}
 use Rattle.sets.proofs.Bits.{has-pow}
 use Rattle.automaton.specs.Held.{Rule, Held, Valid}
 use Rattle.trees.specs.Trees.{Tree, Forest, hole, node, []ᶠ, _∷ᶠ_}
@@ -17,16 +17,15 @@ use Rattle.expressions.specs.Nodes.{labelOf, children, childCount}
 use Rattle.expressions.specs.Words.{encode, wordsOf}
 use Rattle.expressions.specs.Unfolding.{exprAt}
 use Rattle.expressions.specs.Soundness.{catOpens, opensOf, opensIn, completed}
 use Rattle.elimination.specs.RowLists.{those, ascending, finalStates}
-use Rattle.elimination.specs.Stages.{NodeRow, holesTable, ruleShape, rulesTable, startTable, ruleRows, start, altMade, catMade, iterMade, joinMadeFrom, joinMade, loopingNode, incomingNode, outgoingNode, standInMade, replacedMade, replacedRows, remainsNode, eliminatedStage, eliminatedStages, stageAfter, joinStage, converted, waitsFor, nodeBound, boundOf}
+use Rattle.elimination.specs.Stages.{holesTable, ruleShape, rulesTable, startTable, ruleRows, start, altMade, catMade, iterMade, joinMadeFrom, joinMade, loopingNode, incomingNode, outgoingNode, standInMade, replacedMade, replacedRows, remainsNode, eliminatedStage, eliminatedStages, stageAfter, joinStage, converted, nodeBound, boundOf}
 use Rattle.elimination.proofs.Theorem.{wholly-ascending}
-
-abbrev pub rule : ℕ → ℕ → List ℕ → Rule
-rule symbol target sources = record { symbol = symbol; target = target; sources = sources }
+use Rattle.claims.specs.WorkedDrafts.{leaf, over, pair, wordsP}
+use Rattle.claims.specs.ComputedFiles.{rule, heldP}
 
 -- "File P"
 abbrev pub P : Held
-P = record { states = 2; finals = 2; arities = 0 ∷ 2 ∷ []; rules = rule 0 0 [] ∷ rule 1 1 (0 ∷ 0 ∷ []) ∷ rule 1 1 (1 ∷ 0 ∷ []) ∷ [] }
+P = heldP
 
 -- "a to 0, b to 0, g(0,0) to 1, final 1"
 abbrev pub pairs : Held
@@ -56,20 +55,13 @@ unused = record { states = 3; finals = 4; arities = 0 ∷ 1 ∷ 1 ∷ []; rules 
 abbrev pub Gives : Held → ℕ → ℕ → Type 0
 Gives held answer count = (converted held .node ≡ answer) × (length (converted held .table) ≡ count)
 
-abbrev pub rowAt : ℕ → ℕ → NodeRow
-rowAt i target = record { node = i; target = target }
-
 pub record Numbers : Type 0 where
   -- "P: 10 nodes, answer 9 .. Bound 17."
   pub P-gives : Gives P 9 10
   pub P-bound : boundOf P ≡ 17
-  pub P-words : wordsOf (converted P .table)
-      ≡ 0 ∷ 0 ∷ 0 ∷ 0 ∷ 0 ∷ 0 ∷ 1 ∷ 0 ∷ 0 ∷ 0 ∷ 0 ∷ 1 ∷ 1 ∷ 1 ∷ 0 ∷ 0 ∷ 0 ∷ 2 ∷ 2 ∷ 0 ∷ 0 ∷ 0 ∷ 0 ∷ 0 ∷ 2 ∷ 513 ∷ 1 ∷ 1 ∷ 0 ∷ 1 ∷ 2 ∷ 513 ∷ 2 ∷ 1 ∷ 0 ∷ 3
-      ∷ 4 ∷ 0 ∷ 4 ∷ 3 ∷ 0 ∷ 0 ∷ 4 ∷ 0 ∷ 5 ∷ 3 ∷ 0 ∷ 2 ∷ 5 ∷ 1 ∷ 7 ∷ 0 ∷ 0 ∷ 2 ∷ 4 ∷ 1 ∷ 8 ∷ 6 ∷ 0 ∷ 0 ∷ []
-  -- "After 1 step: 8 nodes, rows 6 to 1, 7 to 1, 2 to 16, waiting for 0, 1, 1 states."
+  pub P-words : wordsOf (converted P .table) ≡ wordsP
+  -- "After 1 step: 8 nodes"
   pub P-one-nodes : length (stageAfter 1 P .table) ≡ 8
-  pub P-one-rows : stageAfter 1 P .rows ≡ rowAt 6 1 ∷ rowAt 7 1 ∷ rowAt 2 16 ∷ []
-  pub P-one-waits : map (waitsFor (stageAfter 1 P .table)) (stageAfter 1 P .rows) ≡ 0 ∷ 1 ∷ 1 ∷ []
   -- "answer 7 of 8 nodes", "answer 5 of 6 nodes", "answer 4 of 5 nodes", "answer 0 of 2 nodes", "answer 0 of 3", "answer 9 of 10 nodes"
   pub pairs-gives : Gives pairs 7 8
   pub nested-gives : Gives nested 5 6
@@ -79,14 +71,12 @@ pub record Numbers : Type 0 where
   pub unused-gives : Gives unused 9 10
 
 pub numbers : Numbers
-unfolding nodeBound wordsOf encode waitsFor size howMany converted stageAfter eliminatedStages eliminatedStage start startTable holesTable rulesTable ruleShape ruleRows finalStates those ascending joinStage joinMade joinMadeFrom altMade catMade iterMade standInMade replacedRows replacedMade loopingNode incomingNode outgoingNode remainsNode completed opensIn opensOf catOpens children childCount labelOf has union without oneSet emptySet setOf
+unfolding wordsP nodeBound wordsOf encode converted stageAfter eliminatedStages eliminatedStage start startTable holesTable rulesTable ruleShape ruleRows finalStates those ascending joinStage joinMade joinMadeFrom altMade catMade iterMade standInMade replacedRows replacedMade loopingNode incomingNode outgoingNode remainsNode completed opensIn opensOf catOpens children childCount labelOf has union without oneSet emptySet setOf
 numbers = record {
   P-gives = (refl, refl);
   P-bound = refl;
   P-words = refl;
   P-one-nodes = refl;
-  P-one-rows = refl;
-  P-one-waits = refl;
   pairs-gives = (refl, refl);
   nested-gives = (refl, refl);
   endless-gives = (refl, refl);
@@ -96,9 +86,6 @@ numbers = record {
 }
 
 -- ---- which trees they denote
-
-P-valid : Valid P
-P-valid = omega arith
 
 pairs-valid : Valid pairs
 pairs-valid = omega arith
@@ -139,16 +126,6 @@ module _ (rules : List Rule) where
   -- the sources of a known row
   each-of : (ts : Forest) (r s : Rule) → r ≡ s → ReachesEach rules ts (r .sources) → ReachesEach rules ts (s .sources)
   each-of ts r s e x = subst (λ (r : Rule). ReachesEach rules ts (r .sources)) e x
-
--- the trees of the drafts
-abbrev pub leaf : ℕ → Tree
-leaf f = node f []ᶠ
-
-abbrev pub over : ℕ → Tree → Tree
-over f t = node f (t ∷ᶠ []ᶠ)
-
-abbrev pub pair : ℕ → Tree → Tree → Tree
-pair f t u = node f (t ∷ᶠ u ∷ᶠ []ᶠ)
 
 -- "denotes g(a,a), g(a,b), g(b,a), g(b,b) and no other"
 abbrev pub Leaf : Tree → Type 0

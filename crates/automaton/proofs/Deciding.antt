@@ -1,11 +1,13 @@
--- Answers that decide a claim: what they show, and how they are put together.
+-- Claims that are decided, and answers that decide a claim: what they show, and how they are put together.
 use Prim.Native.Nat.{ℕ, _<_, _≤_}
 use native.Mathlib.Omega.{arith}
 use mathlib.Core.Path.{_≡_, refl}
 use mathlib.Core.Bool.{Bool, true, false}
+use mathlib.Core.List.{List, [], _∷_}
 use lib.Dec.{ltb, leb, eqb}
 use borrow.Author.Tests.{lt-ltb, le-leb, eq-eqb, ltb-true, leb-true, eqb-true}
-use Rattle.expressions.specs.Answers.{Decides}
+use Rattle.automaton.specs.Decides.{Decides}
+use Rattle.automaton.specs.Held.{All}
 
 never : true ≡ false → ⊥
 never e = let z : _≡_ {A = ℕ} 0 1 = cc in omega arith
@@ -41,3 +43,19 @@ decides-le m n = record { only = leb-true m n; always = le-leb m n }
 
 pub decides-eq : (m n : ℕ) → Decides (m ≡ n) (eqb m n)
 decides-eq m n = record { only = eqb-true m n; always = eq-eqb m n }
+
+-- ---- decided claims
+
+pub both : {A B : Type 0} → Dec A → Dec B → Dec (A × B)
+both (yes a) (yes b) = yes (a, b)
+both (yes a) (no n) = no (λ p. n (p .1))
+both (no n) d = no (λ p. n (p .0))
+
+-- a claim that is equivalent to a decided one
+pub decided-as : {A B : Type 0} → Dec A → (A → B) → (B → A) → Dec B
+decided-as (yes a) f g = yes (f a)
+decided-as (no n) f g = no (λ b. n (g b))
+
+pub dec-all : {A : Type 0} (P : A → Type 0) → ((x : A) → Dec (P x)) → (xs : List A) → Dec (All P xs)
+dec-all P d [] = yes tt
+dec-all P d (x ∷ xs) = both (d x) (dec-all P d xs)

@@ -1,12 +1,49 @@
--- Document 01, "Eliminating the states", on expressions: the row list at the start, one state taken out of it, the states one after the other, and the final join. Which node of the table a row's expression is, is said on node numbers.
+-- Document 01, "Eliminating the states", on expressions: making an expression and joining, the row list at the start, one state taken out of it, the states one after the other, and the final join. The theorem is proved here first; that the table of nodes mirrors it is proved apart.
 use Prim.Native.Nat.{ℕ}
-use mathlib.Core.Bool.{Bool, cond, not, _&&_, _||_}
+use mathlib.Core.Bool.{Bool, true, false, cond, not, _&&_, _||_}
 use mathlib.Core.List.{List, [], _∷_, _++_, map}
 use lib.Dec.{eqb}
 use Rattle.automaton.specs.Held.{Rule, Held}
-use Rattle.expressions.specs.Expressions.{Expr, Exprs, holeᴱ, symbolᴱ, []ᴱ, _∷ᴱ_, isOpen}
-use Rattle.elimination.specs.RowLists.{Row, finalTarget, those, ascending, finalStates}
-use Rattle.elimination.specs.Making.{makeCat, makeIter, joined}
+use Rattle.expressions.specs.Expressions.{Expr, Exprs, emptyᴱ, holeᴱ, symbolᴱ, altᴱ, catᴱ, iterᴱ, []ᴱ, _∷ᴱ_, isOpen}
+use Rattle.elimination.specs.RowLists.{Row, finalTarget, those, finalStates}
+
+-- ---- making an expression, and joining
+
+unfoldable pub isEmpty : Expr → Bool
+isEmpty emptyᴱ = true
+isEmpty (holeᴱ q) = false
+isEmpty (symbolᴱ f es) = false
+isEmpty (altᴱ a b) = false
+isEmpty (catᴱ q a b) = false
+isEmpty (iterᴱ q a) = false
+
+unfoldable pub isHole : ℕ → Expr → Bool
+isHole q emptyᴱ = false
+isHole q (holeᴱ p) = eqb q p
+isHole q (symbolᴱ f es) = false
+isHole q (altᴱ a b) = false
+isHole q (catᴱ p a b) = false
+isHole q (iterᴱ p a) = false
+
+-- "an alternation with an empty side is the other side (left tested first)"
+unfoldable pub makeAlt : Expr → Expr → Expr
+makeAlt a b = cond (isEmpty a) b (cond (isEmpty b) a (altᴱ a b))
+
+-- "a concatenation over q whose left is hole q is its right"
+unfoldable pub makeCat : ℕ → Expr → Expr → Expr
+makeCat q a b = cond (isHole q a) b (catᴱ q a b)
+
+-- "an iteration of empty over q is hole q. Nothing else is simplified."
+unfoldable pub makeIter : ℕ → Expr → Expr
+makeIter q a = cond (isEmpty a) (holeᴱ q) (iterᴱ q a)
+
+-- "Joining starts with empty and adds each on the right."
+unfoldable pub joinedFrom : Expr → List Expr → Expr
+joinedFrom a [] = a
+joinedFrom a (e ∷ es) = joinedFrom (makeAlt a e) es
+
+unfoldable pub joined : List Expr → Expr
+joined es = joinedFrom emptyᴱ es
 
 -- ---- the start
 
@@ -65,10 +102,6 @@ eliminated q rows = map (replaced q (standIn q rows)) (those (remains q) rows)
 unfoldable pub eliminatedAll : List ℕ → List Row → List Row
 eliminatedAll [] rows = rows
 eliminatedAll (q ∷ qs) rows = eliminatedAll qs (eliminated q rows)
-
--- "States are taken in ascending order.": the list after the first k states
-unfoldable pub rowsAfter : ℕ → Held → List Row
-rowsAfter k held = eliminatedAll (ascending k) (startRows held)
 
 -- "After all states the remaining rows are joined: that is the answer."
 unfoldable pub answerOf : List Row → Expr
