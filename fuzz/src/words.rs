@@ -62,12 +62,17 @@ fn node_words(input: &mut Input, count: usize) -> (u32, u32, [u32; 3]) {
     }
 }
 
-pub fn measure(input: &mut Input) {
-    let (mut numbers, mut room) = (input.part(20), input.part(3));
+/// A table lent to be read, a count and an answer for it, and what says how much room there is for the outcome.
+fn lent_table<'a>(input: &mut Input<'a>) -> (Lent<u32>, usize, usize, Input<'a>) {
+    let (mut numbers, room) = (input.part(20), input.part(3));
     let table = tables::table(input);
     let count = tables::count(&mut numbers, table.nodes);
     let answer = tables::answer(&mut numbers, count);
-    let lent = Lent::holding(&table.words);
+    (Lent::holding(&table.words), count, answer, room)
+}
+
+pub fn measure(input: &mut Input) {
+    let (lent, count, answer, mut room) = lent_table(input);
     let before = lent.clone();
     let mut scratch = Lent::patterned(room.room(count.min(5000)));
     let mut expected_scratch = scratch.clone();
@@ -79,11 +84,7 @@ pub fn measure(input: &mut Input) {
 }
 
 pub fn list(input: &mut Input) {
-    let (mut numbers, mut room) = (input.part(20), input.part(3));
-    let table = tables::table(input);
-    let count = tables::count(&mut numbers, table.nodes);
-    let answer = tables::answer(&mut numbers, count);
-    let lent = Lent::holding(&table.words);
+    let (lent, count, answer, mut room) = lent_table(input);
     let before = lent.clone();
     let nodes = table::sound_nodes(before.cells(), count, answer);
     let needed = nodes.map_or(40, |nodes| listing::listing(&nodes, answer).len());
