@@ -20,6 +20,7 @@ ROOT = os.path.dirname(os.path.dirname(os.path.abspath(__file__)))
 MADE = os.path.join(ROOT, "target", "fuzz")
 KIT_CLANG = os.path.realpath(os.path.join(MADE, "toolchain", "bin", "llvm-ar"))
 HARNESS = os.path.join(MADE, "exact", "release", "libfuzz_doors.a")
+HATCHES = os.path.join(MADE, "hatches.o")
 OTHER = {"ult": "ule", "ule": "ult", "eq": "ne", "ne": "eq"}
 CONSTANT = re.compile(r"(?:= (?:add|mul|sub|udiv|urem|shl|lshr|icmp)\b.*, |store i(?:8|16|32|64) )(\d+)\b")
 
@@ -48,7 +49,7 @@ def how_noticed(lines, folder):
     target = ["--target=x86_64-unknown-linux-gnu", "-march=x86-64", "--no-default-config"]
     sanitizers = ["-fsanitize=address", "-fsanitize-coverage=inline-8bit-counters,pc-table,trace-cmp"]
     subprocess.run([KIT_CLANG, "--driver-mode=gcc", *target, "-fPIC", "-O1", *sanitizers, "-c", "-x", "ir", source, "-o", compiled], check=True)
-    subprocess.run(["clang-14", "-fsanitize=fuzzer,address", compiled, HARNESS, "-o", program], check=True)
+    subprocess.run(["clang-14", "-fsanitize=fuzzer,address", compiled, HATCHES, HARNESS, "-o", program], check=True)
     found = os.path.join(folder, "found")
     shutil.rmtree(found, ignore_errors=True)
     os.mkdir(found)
@@ -71,7 +72,7 @@ def stops(words):
 
 def main():
     how_many, seed = int(sys.argv[1]), int(sys.argv[2]) if len(sys.argv) > 2 else 1
-    with open(os.path.join(MADE, "module.ll")) as file:
+    with open(os.path.join(MADE, "doors.ll")) as file:
         lines = file.read().split("\n")
     every = list(mistakes(lines))
     chosen = random.Random(seed).sample(every, min(how_many, len(every)))

@@ -3,7 +3,7 @@
 use crate::tuned;
 use differential::random::Random;
 use differential::{automata, files, tables, words};
-use independent::{elimination, file, listing, table, trees};
+use independent::{elimination, file, listing, table, trees, writing};
 
 const CASES: u64 = 20_000;
 
@@ -12,6 +12,7 @@ pub fn tuned_with_plain() {
         let random = &mut Random::new(case);
         files_agree(random);
         tables_agree(random);
+        numbers_agree(random);
     }
 }
 
@@ -47,5 +48,13 @@ fn tables_agree(random: &mut Random) {
     let length = random.near(20 * count.min(5000));
     let (mut a, mut b) = (vec![7; length], vec![7; length]);
     assert_eq!(tuned::list(&words, count, answer, &mut a), listing::list(&words, count, answer, &mut b));
+    assert_eq!(a, b);
+}
+
+fn numbers_agree(random: &mut Random) {
+    let (length, number) = (random.below(48), random.long());
+    let at = random.place(length, writing::digits(number));
+    let (mut a, mut b) = (vec![7; length], vec![7; length]);
+    assert_eq!(tuned::put_number(&mut a, at, number), writing::put_number(&mut b, at, number));
     assert_eq!(a, b);
 }

@@ -7,7 +7,8 @@ mod shapes;
 mod timing;
 mod tuned;
 
-use independent::{elimination, file, listing, table, trees};
+use differential::crossing::{self, Plain};
+use independent::{elimination, file, listing, table, trees, writing};
 use report::Report;
 use shapes::{Shape, Table};
 use std::hint::black_box;
@@ -58,6 +59,8 @@ fn entries(report: &mut Report) {
         report.add("measure", &table.name, time_measure(table));
         report.add("list", &table.name, time_list(table));
     }
+    report.add("put_number, 10,000 calls", "0 to 9,999", time_put_number(&shapes::small_numbers()));
+    report.add("put_number, 10,000 calls", "numbers of 1 to 20 digits", time_put_number(&shapes::any_numbers()));
 }
 
 /// Sizes of trees: 7, 100 and 4,096 symbols, one fewer where symbols of two children alone make no such tree.
@@ -75,21 +78,21 @@ fn nodes_made(shape: &Shape) -> String {
 
 fn time_read(bytes: &[u8]) -> Times {
     let expected = file::reading(bytes);
-    assert_eq!(library::read(bytes), expected);
+    assert_eq!(library::read(bytes).plain(), expected);
     assert_eq!(tuned::read(bytes), expected);
-    times(|| library::read_raw(black_box(bytes)), || file::reading(black_box(bytes)), || tuned::read(black_box(bytes)))
+    times(|| library::read(black_box(bytes)), || file::reading(black_box(bytes)), || tuned::read(black_box(bytes)))
 }
 
 fn time_write(shape: &Shape) -> Times {
     let value = shape.automaton.to_value();
-    let raw = library::value_to(&value);
+    let crossing = crossing::automaton(&value);
     let (mut a, mut b, mut c) = ([0; 747], [0; 747], [0; 747]);
     let expected = file::write(&value, &mut b);
-    assert_eq!(library::write(&value, &mut a), expected);
+    assert_eq!(library::write(crossing, &mut a).plain(), expected);
     assert_eq!(tuned::write(&value, &mut c), expected);
     assert!(a == b && b == c, "the same bytes");
     times(
-        || library::write_raw(*black_box(&raw), black_box(&mut a)),
+        || library::write(*black_box(&crossing), black_box(&mut a)),
         || file::write(black_box(&value), black_box(&mut b)),
         || tuned::write(black_box(&value), black_box(&mut c)),
     )
@@ -98,7 +101,7 @@ fn time_write(shape: &Shape) -> Times {
 fn time_run(bytes: &[u8], words: &[u16]) -> Times {
     let expected = trees::run(bytes, words);
     assert_eq!(expected.refusal, 0);
-    assert_eq!(library::run(bytes, words), expected);
+    assert_eq!(library::run(bytes, words).plain(), expected);
     assert_eq!(tuned::run(bytes, words), expected);
     times(
         || library::run(black_box(bytes), black_box(words)),
@@ -109,7 +112,7 @@ fn time_run(bytes: &[u8], words: &[u16]) -> Times {
 
 fn time_productive(bytes: &[u8]) -> Times {
     let expected = trees::productive(bytes);
-    assert_eq!(library::productive(bytes), expected);
+    assert_eq!(library::productive(bytes).plain(), expected);
     assert_eq!(tuned::productive(bytes), expected);
     times(
         || library::productive(black_box(bytes)),
@@ -122,7 +125,7 @@ fn time_convert(bytes: &[u8]) -> Times {
     let (mut a, mut b, mut c) = (vec![0; ROOM], vec![0; ROOM], vec![0; ROOM]);
     let expected = elimination::convert(bytes, &mut b);
     assert_eq!(expected.refusal, 0);
-    assert_eq!(library::convert(bytes, &mut a), expected);
+    assert_eq!(library::convert(bytes, &mut a).plain(), expected);
     assert_eq!(tuned::convert(bytes, &mut c), expected);
     assert!(a == b && b == c, "the same words");
     times(
@@ -136,11 +139,11 @@ fn time_partly(bytes: &[u8], k: u32) -> Times {
     let (mut a, mut b, mut c) = (vec![0; ROOM], vec![0; ROOM], vec![0; ROOM]);
     let expected = elimination::convert_partly(bytes, k, &mut b);
     assert_eq!(expected.refusal, 0);
-    assert_eq!(library::convert_partly(bytes, k, &mut a), expected);
+    assert_eq!(library::convert_partly(bytes, k, &mut a).plain(), expected);
     assert_eq!(tuned::convert_partly(bytes, k, &mut c), expected);
     assert!(a == b && b == c, "the same words");
     times(
-        || library::convert_partly_raw(black_box(bytes), k, black_box(&mut a)),
+        || library::convert_partly(black_box(bytes), k, black_box(&mut a)),
         || elimination::convert_partly(black_box(bytes), k, black_box(&mut b)),
         || tuned::convert_partly(black_box(bytes), k, black_box(&mut c)),
     )
@@ -162,7 +165,7 @@ fn time_measure(table: &Table) -> Times {
     let Table { words, count, answer, .. } = table;
     let (mut a, mut b, mut c) = (vec![0; *count], vec![0; *count], vec![0; *count]);
     let expected = table::measure(words, *count, *answer, &mut b);
-    assert_eq!(library::measure(words, *count, *answer, &mut a), expected);
+    assert_eq!(library::measure(words, *count, *answer, &mut a).plain(), expected);
     assert_eq!(tuned::measure(words, *count, *answer, &mut c), expected);
     assert!(a == b && b == c, "the same sizes");
     times(
@@ -177,7 +180,7 @@ fn time_list(table: &Table) -> Times {
     let room = 40 * count + 20;
     let (mut a, mut b, mut c) = (vec![0; room], vec![0; room], vec![0; room]);
     let expected = listing::list(words, *count, *answer, &mut b);
-    assert_eq!(library::list(words, *count, *answer, &mut a), expected);
+    assert_eq!(library::list(words, *count, *answer, &mut a).plain(), expected);
     assert_eq!(tuned::list(words, *count, *answer, &mut c), expected);
     assert!(a == b && b == c, "the same bytes");
     times(
@@ -185,6 +188,25 @@ fn time_list(table: &Table) -> Times {
         || listing::list(black_box(words), *count, *answer, black_box(&mut b)),
         || tuned::list(black_box(words), *count, *answer, black_box(&mut c)),
     )
+}
+
+fn time_put_number(numbers: &[u64]) -> Times {
+    let room = 20 * numbers.len();
+    let (mut a, mut b, mut c) = (vec![0; room], vec![0; room], vec![0; room]);
+    let expected = put_all(writing::put_number, numbers, &mut b);
+    assert_eq!(put_all(library::put_number, numbers, &mut a), expected);
+    assert_eq!(put_all(tuned::put_number, numbers, &mut c), expected);
+    assert!(a == b && b == c, "the same bytes");
+    times(
+        || put_all(library::put_number, black_box(numbers), black_box(&mut a)),
+        || put_all(writing::put_number, black_box(numbers), black_box(&mut b)),
+        || put_all(tuned::put_number, black_box(numbers), black_box(&mut c)),
+    )
+}
+
+/// Puts the numbers one after the other; gives the place after the last.
+fn put_all(put: impl Fn(&mut [u8], usize, u64) -> usize, numbers: &[u64], out: &mut [u8]) -> usize {
+    numbers.iter().fold(0, |at, &number| put(out, at, number))
 }
 
 /// How the cost of reading, running a tree of 1,000 symbols and converting grows with states, rows and symbols, the others held.

@@ -1,4 +1,4 @@
-//! The automata, trees and tables that are timed.
+//! The automata, trees, tables and numbers that are timed.
 
 use differential::published;
 use differential::random::Random;
@@ -155,4 +155,14 @@ pub fn random_table(count: usize) -> Table {
     let nodes = tables::nodes_of_count(&mut Random::new(5), count);
     let name = format!("random, {count} nodes");
     Table { name, words: table::words_of_table(&nodes), count, answer: count - 1 }
+}
+
+pub fn small_numbers() -> Vec<u64> {
+    (0..10_000).collect()
+}
+
+/// Mixed: 1 to 20 digits, each number of them about as often.
+pub fn any_numbers() -> Vec<u64> {
+    let mut random = Random::new(7);
+    (0..10_000).map(|_| (random.next() | 1 << 63) / 10u64.pow(random.below(19) as u32)).collect()
 }

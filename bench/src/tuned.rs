@@ -428,6 +428,38 @@ pub fn list(words: &[u32], count: usize, answer: usize, out: &mut [u8]) -> (u8, 
     (DONE, length)
 }
 
+/// The digits of 0 to 99, two bytes each.
+const PAIRS: [u8; 200] = {
+    let mut pairs = [b'0'; 200];
+    let mut number = 0;
+    while number < 100 {
+        pairs[2 * number] += (number / 10) as u8;
+        pairs[2 * number + 1] += (number % 10) as u8;
+        number += 1;
+    }
+    pairs
+};
+
+/// Two digits at a time, from the right.
+pub fn put_number(out: &mut [u8], at: usize, n: u64) -> usize {
+    let digits = n.checked_ilog10().unwrap_or(0) as usize + 1;
+    let end = at.saturating_add(digits);
+    let Some(out) = out.get_mut(at..end) else {
+        return at;
+    };
+    let (mut left, mut place) = (n, digits);
+    while place >= 2 {
+        place -= 2;
+        let pair = 2 * (left % 100) as usize;
+        out[place..place + 2].copy_from_slice(&PAIRS[pair..pair + 2]);
+        left /= 100;
+    }
+    if place == 1 {
+        out[0] = b'0' + left as u8;
+    }
+    end
+}
+
 /// There was no room for a node.
 struct Full;
 

@@ -2,6 +2,8 @@
 //! the block, so that any touch beyond it stops the run; a build with margins has eight more cells on both sides and looks whether they
 //! changed.
 
+use differential::lent::Buffer;
+use std::hint::black_box;
 use std::slice;
 
 const MARGIN: usize = if cfg!(feature = "margins") { 8 } else { 0 };
@@ -57,24 +59,28 @@ impl<T: Cell> Lent<T> {
         lent
     }
 
-    pub fn cells(&self) -> &[T] {
-        unsafe { slice::from_raw_parts(self.start.add(MARGIN), self.length) }
-    }
-
-    pub fn cells_mut(&mut self) -> &mut [T] {
-        unsafe { slice::from_raw_parts_mut(self.start.add(MARGIN), self.length) }
-    }
-
     /// The cells and the margins.
     fn all(&self) -> &[T] {
         unsafe { slice::from_raw_parts(self.start, self.length + 2 * MARGIN) }
     }
+}
 
-    pub fn must_be(&self, expected: &Lent<T>, what: &str) {
-        if self.all() != expected.all() {
-            let place = self.all().iter().zip(expected.all()).position(|(found, expected)| found != expected);
+impl<T: Cell> Buffer<T> for Lent<T> {
+    fn cells(&self) -> &[T] {
+        unsafe { slice::from_raw_parts(self.start.add(MARGIN), self.length) }
+    }
+
+    fn cells_mut(&mut self) -> &mut [T] {
+        unsafe { slice::from_raw_parts_mut(self.start.add(MARGIN), self.length) }
+    }
+
+    fn must_be(&self, expected: &Lent<T>, what: &str) {
+        // The compiler is not to conclude that what was lent to be read is as it was.
+        let (found, expected) = (black_box(self.all()), black_box(expected.all()));
+        if found != expected {
+            let place = found.iter().zip(expected).position(|(found, expected)| found != expected);
             let place = place.expect("buffers of one length");
-            let (found, expected) = (self.all()[place], expected.all()[place]);
+            let (found, expected) = (found[place], expected[place]);
             panic!("{what}: place {} is {found:?}, expected {expected:?}", place as isize - MARGIN as isize);
         }
     }

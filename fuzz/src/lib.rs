@@ -4,6 +4,7 @@
 mod arena;
 mod automata;
 mod files;
+mod helpers;
 mod input;
 mod lent;
 mod sets;
@@ -26,7 +27,7 @@ pub unsafe extern "C" fn LLVMFuzzerTestOneInput(bytes: *const u8, length: usize)
     // Nothing of an earlier input is kept.
     unsafe { MEMORY.clear() };
     let mut input = Input::new(bytes);
-    match input.byte() % 12 {
+    match input.byte() % 15 {
         0 => files::read(&mut input),
         1 => files::write(&mut input),
         2 => files::run(&mut input),
@@ -38,7 +39,10 @@ pub unsafe extern "C" fn LLVMFuzzerTestOneInput(bytes: *const u8, length: usize)
         8 => files::convert_partly(&mut input),
         9 => files::convert(&mut input),
         10 => files::printed(&mut input),
-        _ => sets::all(&mut input),
+        11 => sets::all(&mut input),
+        12 => helpers::put_bytes(&mut input),
+        13 => helpers::put_number(&mut input),
+        _ => helpers::node_at(&mut input),
     }
     0
 }

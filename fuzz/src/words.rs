@@ -3,6 +3,8 @@
 use crate::input::Input;
 use crate::lent::Lent;
 use crate::tables;
+use differential::both;
+use differential::lent::Buffer;
 use independent::{listing, table};
 
 pub fn is_sound(input: &mut Input) {
@@ -10,11 +12,7 @@ pub fn is_sound(input: &mut Input) {
     let table = tables::table(input);
     let count = tables::count(&mut numbers, table.nodes);
     let answer = tables::answer(&mut numbers, count);
-    let lent = Lent::holding(&table.words);
-    let before = lent.clone();
-    let found = library::is_sound(lent.cells(), count, answer);
-    assert_eq!(found, table::is_sound(before.cells(), count, answer), "is_sound, count {count}, answer {answer}");
-    lent.must_be(&before, "the words after is_sound");
+    both::is_sound(&Lent::holding(&table.words), count, answer);
 }
 
 pub fn make(input: &mut Input) {
@@ -26,12 +24,7 @@ pub fn make(input: &mut Input) {
     if node.byte() % 4 != 0 {
         words.extend([0x5555_5555; 7]);
     }
-    let mut lent = Lent::holding(&words);
-    let mut expected_words = lent.clone();
-    let found = library::make(lent.cells_mut(), count, kind, label, children);
-    let expected = table::make(expected_words.cells_mut(), count, kind, label, children);
-    assert_eq!(found, expected, "make of {:?} as node {count}", (kind, label, children));
-    lent.must_be(&expected_words, "the words after make");
+    both::make(&mut Lent::holding(&words), count, kind, label, children);
 }
 
 /// Kind, label and children: mostly of a node that keeps the rules, each sometimes any number.
@@ -73,26 +66,14 @@ fn lent_table<'a>(input: &mut Input<'a>) -> (Lent<u32>, usize, usize, Input<'a>)
 
 pub fn measure(input: &mut Input) {
     let (lent, count, answer, mut room) = lent_table(input);
-    let before = lent.clone();
     let mut scratch = Lent::patterned(room.room(count.min(5000)));
-    let mut expected_scratch = scratch.clone();
-    let found = library::measure(lent.cells(), count, answer, scratch.cells_mut());
-    let expected = table::measure(before.cells(), count, answer, expected_scratch.cells_mut());
-    assert_eq!(found, expected, "measure, count {count}, answer {answer}, {} words", scratch.cells().len());
-    scratch.must_be(&expected_scratch, "the scratch after measure");
-    lent.must_be(&before, "the words after measure");
+    both::measure(&lent, count, answer, &mut scratch);
 }
 
 pub fn list(input: &mut Input) {
     let (lent, count, answer, mut room) = lent_table(input);
-    let before = lent.clone();
-    let nodes = table::sound_nodes(before.cells(), count, answer);
+    let nodes = table::sound_nodes(lent.cells(), count, answer);
     let needed = nodes.map_or(40, |nodes| listing::listing(&nodes, answer).len());
     let mut out = Lent::patterned(room.room(needed));
-    let mut expected_out = out.clone();
-    let found = library::list(lent.cells(), count, answer, out.cells_mut());
-    let expected = listing::list(before.cells(), count, answer, expected_out.cells_mut());
-    assert_eq!(found, expected, "list, count {count}, answer {answer}, {} bytes", out.cells().len());
-    out.must_be(&expected_out, "the bytes after list");
-    lent.must_be(&before, "the words after list");
+    both::list(&lent, count, answer, &mut out);
 }

@@ -1,14 +1,19 @@
-//! Links the proved library, `target/staticlib/libtrial.a` at the repository's root.
+//! Links the proved library from `target/staticlib` at the repository's root.
 
 use std::path::Path;
 
+/// The crates whose doors the archives have; each archive is named after its crate.
+const CRATES: [&str; 2] = ["doors", "hatches"];
+
 fn main() {
     let folder = Path::new(env!("CARGO_MANIFEST_DIR")).join("../../target/staticlib");
-    let archive = folder.join("libtrial.a");
-    println!("cargo:rerun-if-changed={}", archive.display());
-    if !archive.exists() {
-        panic!("\n\nthe proved library is not there: run `rt staticlib trial` at the repository's root first\n\n");
-    }
     println!("cargo:rustc-link-search=native={}", folder.display());
-    println!("cargo:rustc-link-lib=static=trial");
+    for name in CRATES {
+        let archive = folder.join(format!("lib{name}.a"));
+        println!("cargo:rerun-if-changed={}", archive.display());
+        if !archive.exists() {
+            panic!("\n\nthe proved library is not there: run `rt staticlib {name}` at the repository's root first\n\n");
+        }
+        println!("cargo:rustc-link-lib=static={name}");
+    }
 }

@@ -9,7 +9,8 @@ use lib.Dec.{lit<}
 use lib.Pow.{pow-mono}
 use lib.ListN.{length, getD, drop, length-append}
 use borrow.Author.Tests.{le-ltb, le-leb, lt-leb, eq-eqb}
-use Rattle.automaton.specs.Held.{Rule, Held, All, ValidRule, Valid}
+use Rattle.automaton.specs.Held.{Rule, Held, ValidRule, Valid}
+use Rattle.ground.specs.Lists.{All}
 use Rattle.automaton.specs.File.{twoBytes, fileRecord, headRecord, symbolRecord, rowRecord, endRecord, each, fileOf}
 use Rattle.automaton.specs.Checks.{holds, SoFar, nothing, given, Found, more, end, numberAt, isNone, kindAllowed, lengthAllowed, headValues, symbolValues, rowValues, values, recordFound, follow, verdictFrom, verdict}
 use Rattle.automaton.proofs.Frames.{length-row}

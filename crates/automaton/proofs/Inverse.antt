@@ -8,10 +8,11 @@ use lib.Dec.{leb, ltb, eqb}
 use lib.ListN.{length, getD, take, drop, length-drop}
 use lib.Seq.{length-take-le}
 use borrow.Author.Tests.{ne-eqb, lt-ltb, leb-false, ltb-false, eqb-true, not-false, ltb-true}
-use Rattle.automaton.specs.Held.{Rule, Held, All, ValidRule}
+use Rattle.automaton.specs.Held.{Rule, Held, ValidRule}
+use Rattle.ground.specs.Lists.{All}
 use Rattle.automaton.specs.File.{twoBytes, fileRecord, headRecord, symbolRecord, rowRecord, endRecord}
 use Rattle.automaton.specs.Checks.{nothing, given, Found, more, end, wrongIf, numberAt, isNone, kindAllowed, lengthAllowed, headValues, symbolValues, allBelow, rowValues, values, recordFound}
-use Rattle.automaton.proofs.Truth.{and-parts}
+use Rattle.ground.proofs.Truth.{and-parts}
 use Rattle.automaton.proofs.Frames.{length-head, length-symbol, length-row, length-end}
 use Rattle.automaton.proofs.Verdicts.{Passed, found-values, more-passed, end-passed}
 use Rattle.automaton.proofs.Records.{Bytes, bytes-drop, record-bytes, two-of}

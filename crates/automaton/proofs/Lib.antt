@@ -1,8 +1,5 @@
-pub mod Truth
-pub mod Deciding
 pub mod Frames
 pub mod Verdicts
-pub mod Places
 pub mod Stages
 pub mod Heads
 pub mod Symbols
@@ -16,8 +13,5 @@ pub mod Faults
 pub mod Cap
 pub mod Pair
 pub mod Files
-pub mod Stores
-pub mod Fits
-pub mod Puts
-pub mod Writes
-pub mod Laws
+pub mod Values
+pub mod Handing

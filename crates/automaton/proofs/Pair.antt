@@ -6,7 +6,8 @@ use mathlib.Core.List.{List, [], _∷_, _++_, append-assoc, append-nil}
 use native.Mathlib.Decide.{ℕ-discrete}
 use native.Mathlib.Omega.{arith}
 use lib.ListN.{length, drop, length-append}
-use Rattle.automaton.specs.Held.{Rule, Held, All, ValidRule, Valid}
+use Rattle.automaton.specs.Held.{Rule, Held, ValidRule, Valid}
+use Rattle.ground.specs.Lists.{All}
 use Rattle.automaton.specs.File.{headRecord, symbolRecord, rowRecord, endRecord, each, fileOf}
 use Rattle.automaton.specs.Checks.{Verdict, holds, nothing, given, Found, wrong, more, end, numberAt, isNone, recordFound, follow, verdictFrom, verdict}
 use Rattle.automaton.proofs.Records.{Bytes, bytes-drop}

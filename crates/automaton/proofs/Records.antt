@@ -7,7 +7,7 @@ use native.Mathlib.Nat.{mod-eq-of-lt}
 use native.Mathlib.Omega.{arith}
 use lib.ListN.{length, take, drop, length-append, take-append-drop}
 use lib.Seq.{length-take-le, take-append-seam, drop-append-seam, drop-drop}
-use Rattle.automaton.specs.Held.{All}
+use Rattle.ground.specs.Lists.{All}
 use Rattle.automaton.specs.File.{twoBytes, fileRecord}
 use Rattle.automaton.specs.Checks.{SoFar, numberAt, kindAllowed, lengthAllowed, values, recordFound}
 use Rattle.automaton.proofs.Verdicts.{Passed, found-values}

@@ -9,16 +9,17 @@ use lib.ListN.{length, getD, take, drop, set, replicate, length-append, length-m
 use borrow.Author.Tests.{le-leb, lt-leb, eq-eqb, ne-eqb, eqb-true, leb-true}
 use Rattle.automaton.specs.Held.{Rule}
 use Rattle.automaton.specs.Checks.{holds, fault, given, Found, more, end, wrongIf, numberAt, isNone, kindAllowed, allBelow, rowValues, values, recordFound, follow}
-use Rattle.automaton.specs.Answers.{filled, placedRow, unusedRow}
+use Rattle.ground.specs.Lists.{filled}
+use Rattle.automaton.specs.Answers.{placedRow, unusedRow}
 use Rattle.automaton.specs.Inside.{allowedBy, frameOf, verdictAt, heldSoFar, ruleOf, ruleFault, Knows, RowRead, RowsAsked, RowsRead}
 use Rattle.automaton.specs.declared.Row.{Row}
 use Rattle.automaton.specs.declared.reader.Frame.{Frame}
 use Rattle.automaton.specs.declared.reader.Ruled.{Ruled}
-use Rattle.automaton.proofs.Truth.{and-parts}
+use Rattle.ground.proofs.Truth.{and-parts}
 use Rattle.automaton.proofs.Frames.{length-row}
 use Rattle.automaton.proofs.Verdicts.{Passed, frame-passed, passed-frame, found-values, at-wrong, at-more, at-end}
 use Rattle.automaton.proofs.Symbols.{none-length}
-use Rattle.automaton.proofs.Places.{filled-none, filled-set}
+use Rattle.ground.proofs.Places.{filled-none, filled-set}
 use Rattle.automaton.proofs.Stages.{allowed-given, frame-fails, frame-passes}
 
 -- ---- one row by the definition

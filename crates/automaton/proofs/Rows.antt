@@ -14,7 +14,7 @@ use Rattle.automaton.specs.Answers.{placedRow}
 use Rattle.automaton.specs.Inside.{SourcesRead, ruleOf, ruleFault, Knows, RowRead}
 use Rattle.automaton.specs.declared.reader.Ruled.{Ruled}
 use Rattle.automaton.specs.declared.reader.Sources.{Sources}
-use Rattle.automaton.proofs.Places.{filled-get}
+use Rattle.ground.proofs.Places.{filled-get}
 use Rattle.automaton.proofs.Stages.{payload-get}
 
 -- what is left of a part from its second element on

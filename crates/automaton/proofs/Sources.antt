@@ -11,9 +11,9 @@ use lib.ListN.{length, getD, take, drop, set, replicate, length-drop}
 use lib.Seq.{take-suc, length-take-le, getD-take, getD-drop}
 use borrow.Author.Tests.{lt-ltb, le-ltb}
 use Rattle.automaton.specs.Checks.{allBelow}
-use Rattle.automaton.specs.Answers.{filled}
+use Rattle.ground.specs.Lists.{filled}
 use Rattle.automaton.specs.Inside.{SourcesRead}
-use Rattle.automaton.proofs.Places.{filled-none, filled-set}
+use Rattle.ground.proofs.Places.{filled-none, filled-set}
 
 module _ (bound : ℕ) where
   pub below-snoc : (xs : List ℕ) (x : ℕ) → allBelow bound xs ≡ true → x < bound → allBelow bound (xs ++ (x ∷ [])) ≡ true

@@ -1,15 +1,14 @@
 -- The reader's stages: what each record leads to, in the terms in which the code finds it.
-use Prim.Native.Nat.{ℕ, _+_, _-_, _/_, _^_, _≤_, _<_}
+use Prim.Native.Nat.{ℕ, _+_, _-_, _≤_, _<_}
 use mathlib.Core.Bool.{Bool, true, false, not, and-true, and-false, or-false}
-use mathlib.Core.Path.{_≡_, refl, sym, ap, _∙_}
+use mathlib.Core.Path.{_≡_, sym, ap, _∙_}
 use mathlib.Core.List.{List, [], _∷_, _++_}
-use native.Mathlib.Nat.{add-assoc, add-zero, div-eq-of-lt, div-lt-iff-lt-mul}
+use native.Mathlib.Nat.{add-assoc, add-zero}
 use native.Mathlib.Omega.{arith}
-use lib.Dec.{leb, ltb, eqb}
-use lib.Pow.{pow-pos}
+use lib.Dec.{leb, ltb}
 use lib.ListN.{length, getD, take, drop, length-drop}
 use lib.Seq.{getD-drop, getD-take, drop-drop}
-use borrow.Author.Tests.{lt-ltb, le-ltb, le-leb, lt-leb, eq-eqb, ne-eqb, eqb-true, leb-true, leb-false}
+use borrow.Author.Tests.{lt-ltb, le-ltb, le-leb, lt-leb, eqb-true}
 use Rattle.automaton.specs.Held.{Held}
 use Rattle.automaton.specs.Checks.{fault, SoFar, nothing, given, wrong, more, wrongIf, numberAt, isNone, kindAllowed, lengthAllowed, symbolValues, values, recordFound}
 use Rattle.automaton.specs.Inside.{allowedBy, frameOf, verdictAt, heldSoFar}
@@ -87,11 +86,3 @@ module _ (file : List ℕ) (at states finals : ℕ) (known : List ℕ) (arity : 
 
   pub symbol-inside : at ≤ length file → at + 5 ≤ length file
   symbol-inside l = omega (arith, rw (symbol-size, length-drop) at (passed .there))
-
--- a set with nothing at or past a count, as the machine sees it
-pub past-count : (count set : ℕ) → not (eqb (set / 2 ^ count) 0) ≡ leb (2 ^ count) set
-past-count count set = go (leb (2 ^ count) set) refl
-  where
-    go : (b : Bool) → leb (2 ^ count) set ≡ b → not (eqb (set / 2 ^ count) 0) ≡ b
-    go true e = rw (ne-eqb (set / 2 ^ count) 0 (λ z. omega (arith, leb-true (2 ^ count) set e, div-lt-iff-lt-mul {x = set} {y = 1} (pow-pos count) .0 (omega arith))))
-    go false e = rw (eq-eqb (set / 2 ^ count) 0 (div-eq-of-lt (leb-false _ _ e)))

@@ -8,11 +8,11 @@ use lib.Dec.{eqb}
 use lib.ListN.{length, getD, drop, set, replicate, length-append}
 use borrow.Author.Tests.{ne-eqb, eqb-true}
 use Rattle.automaton.specs.Checks.{fault, given, numberAt, isNone, kindAllowed}
-use Rattle.automaton.specs.Answers.{filled}
+use Rattle.ground.specs.Lists.{filled}
 use Rattle.automaton.specs.Inside.{allowedBy, frameOf, verdictAt, heldSoFar, SymbolsRead}
 use Rattle.automaton.specs.declared.reader.Frame.{Frame}
 use Rattle.automaton.proofs.Verdicts.{Passed, at-wrong}
-use Rattle.automaton.proofs.Places.{filled-none, filled-set}
+use Rattle.ground.proofs.Places.{filled-none, filled-set}
 use Rattle.automaton.proofs.Stages.{allowed-given, frame-fails, frame-passes, frame-kind-is, symbol-many, symbol-wide, symbol-more, symbol-inside}
 
 pub record SymbolsSoFar (file arities : List ℕ) (count at : ℕ) : Type 0 where

@@ -1,24 +1,20 @@
 -- What the private parts of the reader and the writer promise one another. Nothing here needs to be believed: the public promises cite none of it.
-use Prim.Native.Nat.{ℕ, suc, _+_, _≤_, _<_}
+use Prim.Native.Nat.{ℕ, suc, _+_, _≤_}
 use mathlib.Core.Bool.{Bool, true, cond, not, _&&_, _||_}
 use mathlib.Core.Path.{_≡_}
 use mathlib.Core.List.{List, [], map}
 use lib.Dec.{leb, ltb, eqb}
-use lib.ListN.{length, getD, take, drop}
-use Rattle.automaton.specs.Decides.{Decides}
-use Rattle.automaton.specs.Held.{Rule, Held, All, ValidRule, Valid}
-use Rattle.automaton.specs.File.{rowRecord, each, fileOf}
+use lib.ListN.{length, getD, drop}
+use Rattle.automaton.specs.Held.{Rule, Held, mostSymbols, mostArity, mostRows}
+use Rattle.ground.specs.Lists.{filled}
 use Rattle.automaton.specs.Checks.{Verdict, holds, fault, SoFar, nothing, given, numberAt, lengthAllowed, allBelow, verdictFrom}
-use Rattle.automaton.specs.Answers.{filled, placedRow, unusedRow, ruleHeld, heldBy}
+use Rattle.automaton.specs.Answers.{placedRow, unusedRow}
 use Rattle.automaton.specs.declared.reader.Frame.{Frame}
 use Rattle.automaton.specs.declared.reader.Head.{Head}
 use Rattle.automaton.specs.declared.reader.Symbols.{Symbols}
 use Rattle.automaton.specs.declared.reader.Sources.{Sources}
 use Rattle.automaton.specs.declared.reader.Ruled.{Ruled}
 use Rattle.automaton.specs.declared.reader.Rules.{Rules}
-use Rattle.automaton.specs.declared.writer.Fitted.{Fitted}
-use Rattle.automaton.specs.declared.Row.{Row}
-use Rattle.automaton.specs.declared.Automaton.{Automaton}
 
 -- ---- a record's frame: its kind, its length, and the checks before its values
 
@@ -62,8 +58,8 @@ pub record HeadRead (file : List ℕ) (r : Head) : Type 0 where
 pub record SymbolsRead (file : List ℕ) (r : Symbols) : Type 0 where
   pub known : List ℕ
   pub counted : r .count ≡ length known
-  pub few : length known ≤ 32
-  pub shaped : r .arities ≡ filled 32 0 known
+  pub few : length known ≤ mostSymbols
+  pub shaped : r .arities ≡ filled mostSymbols 0 known
   pub leads : (states finals : ℕ)
       → Leads file 7 (given (heldSoFar states finals [] [])) (r .fault) (r .at) (given (heldSoFar states finals known []))
   pub some : r .fault ≡ 0 → 1 ≤ length known
@@ -71,7 +67,7 @@ pub record SymbolsRead (file : List ℕ) (r : Symbols) : Type 0 where
 
 pub record SourcesRead (sources : List ℕ) (states : ℕ) (r : Sources) : Type 0 where
   pub fine : r .fine ≡ allBelow states sources
-  pub shaped : r .fine ≡ true → r .places ≡ filled 3 0 sources
+  pub shaped : r .fine ≡ true → r .places ≡ filled mostArity 0 sources
 
 -- the row that a payload says, and the number of the first check of its values that fails, 0 where none does
 unfoldable pub ruleOf : List ℕ → Rule
@@ -86,7 +82,7 @@ ruleFault states known payload =
 
 -- the array and its count say these arities
 pub record Knows (arities : List ℕ) (symbols : ℕ) (known : List ℕ) : Type 0 where
-  pub shaped : arities ≡ filled 32 0 known
+  pub shaped : arities ≡ filled mostSymbols 0 known
   pub counted : symbols ≡ length known
 
 pub record RowRead (states symbols : ℕ) (arities payload : List ℕ) (r : Ruled) : Type 0 where
@@ -96,49 +92,14 @@ pub record RowRead (states symbols : ℕ) (arities payload : List ℕ) (r : Rule
 pub record RowsAsked (file : List ℕ) (start symbols : ℕ) : Type 0 where
   pub within : start ≤ length file
   pub other : numberAt (drop start file) 2 ≡ 2 → ⊥
-  pub few : symbols ≤ 32
+  pub few : symbols ≤ mostSymbols
 
 pub record Ended (file : List ℕ) (start : ℕ) (held : Held) (r : Rules) : Type 0 where
   pub rules : List Rule
   pub found : verdictAt file start (given held) ≡ holds (heldSoFar (held .states) (held .finals) (held .arities) rules)
   pub counted : r .count ≡ length rules
-  pub shaped : r .rows ≡ filled 64 unusedRow (map placedRow rules)
+  pub shaped : r .rows ≡ filled mostRows unusedRow (map placedRow rules)
 
 pub record RowsRead (file : List ℕ) (start : ℕ) (held : Held) (r : Rules) : Type 0 where
   pub refused : (r .fault ≡ 0 → ⊥) → (offset : ℕ) × (verdictAt file start (given held) ≡ fault (r .fault) offset)
   pub ended : r .fault ≡ 0 → Ended file start held r
-
--- ---- the writer
-
--- the length of a row's record, 0 for a row that no file can hold
-pub record RowSized (states : ℕ) (known : List ℕ) (row : Row) (r : ℕ) : Type 0 where
-  pub unfit : r ≡ 0 → ValidRule states known (ruleHeld known row) → ⊥
-  pub fit : (r ≡ 0 → ⊥) → ValidRule states known (ruleHeld known row)
-  pub sized : (r ≡ 0 → ⊥) → r ≡ length (rowRecord (ruleHeld known row))
-  pub small : r ≤ 9
-
-pub record RowsFit (states : ℕ) (known : List ℕ) (rules : List Rule) (r : Fitted) : Type 0 where
-  pub decided : Decides (All (ValidRule states known) rules) (r .fine)
-  pub counted : r .fine ≡ true → r .length ≡ length (each rowRecord rules)
-  pub small : r .length ≤ 576
-
-pub record RowThere (out : List ℕ) (at : ℕ) (known : List ℕ) (row : Row) (symbols : ℕ) : Type 0 where
-  pub known-few : symbols ≤ 32
-  pub small : All (λ a. a ≤ 3) known
-  pub less : row .symbol < symbols
-  pub room : at + length (rowRecord (ruleHeld known row)) ≤ length out
-
--- rows that fit, and room for their records
-pub record RowsThere (out : List ℕ) (start : ℕ) (known : List ℕ) (rows : List Row) (count symbols : ℕ) : Type 0 where
-  pub few : count ≤ 64
-  pub known-few : symbols ≤ 32
-  pub small : All (λ a. a ≤ 3) known
-  pub valid : (states : ℕ) × All (ValidRule states known) (map (ruleHeld known) (take count rows))
-  pub room : start + length (each rowRecord (map (ruleHeld known) (take count rows))) ≤ length out
-
--- the length of a value's file, 0 for a value that no file can hold
-pub record FileSized (value : Automaton) (r : ℕ) : Type 0 where
-  pub unfit : r ≡ 0 → Valid (heldBy value) → ⊥
-  pub fit : (r ≡ 0 → ⊥) → Valid (heldBy value)
-  pub sized : (r ≡ 0 → ⊥) → r ≡ length (fileOf (heldBy value))
-  pub long : (r ≡ 0 → ⊥) → length (value .rows) ≡ 64

@@ -1,11 +1,19 @@
 // The reader's parts, from one number to one record. Each assumes what its caller has checked.
+use crate::MOST_ARITY;
+use crate::MOST_ROWS;
+use crate::MOST_STATES;
+use crate::MOST_SYMBOLS;
+use crate::ROW_PLACES;
 use crate::Row;
+use crate::SOURCE_PLACES;
+use crate::SYMBOL_PLACES;
 use crate::UNUSED;
+use sets::StateSet;
 ghost use mathlib.Core.Path.{_≡_};
 ghost use mathlib.Core.List.{List, []};
-ghost use Prim.Native.Nat.{ℕ, _+_, _^_, _≤_, _<_};
-ghost use lib.Dec.{leb};
+ghost use Prim.Native.Nat.{ℕ, _+_, _≤_, _<_};
 ghost use lib.ListN.{length, take, drop};
+ghost use Rattle.automaton.specs.Held.{mostSymbols, mostArity};
 ghost use Rattle.automaton.specs.Checks.{numberAt, lengthAllowed};
 ghost use Rattle.automaton.specs.Inside.{allowedBy, frameOf, heldSoFar, HeadRead, SymbolsRead, SourcesRead, Knows, RowRead, RowsAsked, RowsRead};
 
@@ -22,13 +30,7 @@ fn wide(byte: u8) -> u16
     byte as u16
 }
 
-fn index(byte: u8) -> usize
-    ensures { λ r. ⌜ (r ≡ byte) × (r < 256) ⌝ }
-{
-    byte as usize
-}
-
-// The 2-byte little-endian number at a place.
+// The number that two bytes are, the low one first.
 pub fn number_at(file: &[u8], at: usize) -> u16
     requires { ⌜ at + 1 < length (now file) ⌝ }
     ensures { λ r. ⌜ r ≡ numberAt (now (file .entry)) at ⌝ }
@@ -114,14 +116,6 @@ fn no_head(number: u8) -> Head
     }
 }
 
-// Has the set a member at or past the count of states?
-pub fn past(finals: u16, states: u8) -> bool
-    requires { ⌜ states ≤ 16 ⌝ }
-    ensures { λ r. ⌜ r ≡ leb (2 ^ states) finals ⌝ }
-{
-    (finals as u32) >> states != 0
-}
-
 // The first record, kind 1.
 pub fn head_of(file: &[u8]) -> Head
     ensures { λ r. ⌜ HeadRead (now (file .entry)) r ⌝ }
@@ -135,10 +129,10 @@ pub fn head_of(file: &[u8]) -> Head
     if states < 1 {
         return no_head(4);
     }
-    if 16 < states {
+    if MOST_STATES < states {
         return no_head(4);
     }
-    if past(finals, states) {
+    if StateSet(finals).past(states) {
         return no_head(4);
     }
     Head {
@@ -153,7 +147,7 @@ pub struct Symbols {
     pub fault: u8,
     pub at: usize,
     pub count: u8,
-    pub arities: [u8; 32],
+    pub arities: [u8; SYMBOL_PLACES],
 }
 
 // The records from the second on while their kind is 2.
@@ -184,7 +178,7 @@ pub fn symbols_of(file: &[u8]) -> Symbols
             };
         }
         let arity = file[at + 4];
-        if 32 <= count {
+        if MOST_SYMBOLS <= count {
             return Symbols {
                 fault: 4,
                 at,
@@ -192,7 +186,7 @@ pub fn symbols_of(file: &[u8]) -> Symbols
                 arities,
             };
         }
-        if 3 < arity {
+        if MOST_ARITY < arity {
             return Symbols {
                 fault: 4,
                 at,
@@ -209,14 +203,15 @@ pub fn symbols_of(file: &[u8]) -> Symbols
 // The source states of a row: whether each is a state, and their places.
 pub struct Sources {
     pub fine: bool,
-    pub places: [u8; 3],
+    pub places: [u8; SOURCE_PLACES],
 }
 
 fn sources_at(file: &[u8], at: usize, arity: usize, states: u8) -> Sources
-    requires { ⌜ (arity ≤ 3) × (at + arity ≤ length (now file)) ⌝ }
+    requires { ⌜ arity ≤ mostArity ⌝ }
+    requires { ⌜ at + arity ≤ length (now file) ⌝ }
     ensures { λ r. ⌜ SourcesRead (take arity (drop at (now (file .entry)))) states r ⌝ }
 {
-    let mut places = [0u8; 3];
+    let mut places = [0u8; SOURCE_PLACES];
     let mut i: usize = 0;
     while i < arity {
         let state = file[at + i];
@@ -247,15 +242,25 @@ fn no_row(number: u8) -> Ruled
     }
 }
 
-fn row_at(file: &[u8], at: usize, size: usize, states: u8, symbols: u8, arities: &[u8; 32]) -> Ruled
-    requires { ⌜ (2 ≤ size) × ((size ≤ 5) × ((at + (4 + size) ≤ length (now file)) × (symbols ≤ 32))) ⌝ }
+fn row_at(
+    file: &[u8],
+    at: usize,
+    size: usize,
+    states: u8,
+    symbols: u8,
+    arities: &[u8; SYMBOL_PLACES],
+) -> Ruled
+    requires { ⌜ 2 ≤ size ⌝ }
+    requires { ⌜ size ≤ 5 ⌝ }
+    requires { ⌜ at + (4 + size) ≤ length (now file) ⌝ }
+    requires { ⌜ symbols ≤ mostSymbols ⌝ }
     ensures { λ r. ⌜ RowRead states symbols (now (arities .entry)) (take size (drop 4 (drop at (now (file .entry))))) r ⌝ }
 {
     let symbol = file[at + 4];
     if symbols <= symbol {
         return no_row(4);
     }
-    let arity = index(arities[symbol as usize]);
+    let arity = ground::index(arities[symbol as usize]);
     if size != 2 + arity {
         return no_row(3);
     }
@@ -282,11 +287,17 @@ fn row_at(file: &[u8], at: usize, size: usize, states: u8, symbols: u8, arities:
 pub struct Rules {
     pub fault: u8,
     pub count: u8,
-    pub rows: [Row; 64],
+    pub rows: [Row; ROW_PLACES],
 }
 
 // The kind 3 records and the end record.
-pub fn rows_of(file: &[u8], start: usize, states: u8, symbols: u8, arities: &[u8; 32]) -> Rules
+pub fn rows_of(
+    file: &[u8],
+    start: usize,
+    states: u8,
+    symbols: u8,
+    arities: &[u8; SYMBOL_PLACES],
+) -> Rules
     requires { ⌜ RowsAsked (now file) start symbols ⌝ }
     ensures { λ r. ⌜ ((finals : ℕ) (known : List ℕ) → Knows (now (arities .entry)) symbols known → 1 ≤ length known → RowsRead (now (file .entry)) start (heldSoFar states finals known []) r) ⌝ }
 {
@@ -301,34 +312,21 @@ pub fn rows_of(file: &[u8], start: usize, states: u8, symbols: u8, arities: &[u8
         }
         if frame.kind == 9 {
             if at + 4 != file.len() {
-                return Rules {
-                    fault: 5,
-                    count,
-                    rows,
-                };
+                let fault: u8 = 5;
+                return Rules { fault, count, rows };
             }
-            return Rules {
-                fault: 0,
-                count,
-                rows,
-            };
+            let fault: u8 = 0;
+            return Rules { fault, count, rows };
         }
-        if 64 <= count {
-            return Rules {
-                fault: 4,
-                count,
-                rows,
-            };
+        if MOST_ROWS <= count {
+            let fault: u8 = 4;
+            return Rules { fault, count, rows };
         }
         let size = frame.size as usize;
         let found = row_at(file, at, size, states, symbols, arities);
-        let wrong = found.fault;
-        if wrong != 0 {
-            return Rules {
-                fault: wrong,
-                count,
-                rows,
-            };
+        let fault = found.fault;
+        if fault != 0 {
+            return Rules { fault, count, rows };
         }
         let row = found.row;
         rows[count as usize] = row;

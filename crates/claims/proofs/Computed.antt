@@ -1,4 +1,4 @@
--- The definitions give what the paper and the hand give.
+-- The definitions give what the hand gives.
 use Rattle.claims.specs.Computed.{Computed}
 use Rattle.claims.proofs.ComputedFiles.{file-cases}
 use Rattle.claims.proofs.ComputedSets.{set-cases}

@@ -5,11 +5,14 @@ use mathlib.Core.Path.{_≡_, refl, _∙_, ap}
 use mathlib.Core.List.{List, [], _∷_, _++_}
 use lib.ListN.{length, replicate}
 use Rattle.automaton.specs.declared.Row.{Row}
-use Rattle.automaton.specs.declared.Writing.{Writing}
-use Rattle.automaton.specs.Held.{All, ValidRule, Valid}
+use Rattle.writer.specs.declared.Writing.{Writing}
+use Rattle.ground.specs.Lists.{All, filled, firsts}
+use Rattle.automaton.specs.Held.{ValidRule, Valid}
 use Rattle.automaton.specs.File.{twoBytes, fileRecord, headRecord, symbolRecord, rowRecord, endRecord, each, fileOf}
 use Rattle.automaton.specs.Checks.{numberAt, kindAllowed, lengthAllowed, headValues, symbolValues, allBelow, rowValues, values, recordFound, verdictFrom, verdict}
-use Rattle.automaton.specs.Answers.{filled, placedRow, unusedRow, placed, readingOf, readAnswer, firsts, ruleHeld, heldBy, writing, Written}
+use Rattle.automaton.specs.Refusals.{refusal, noRefusal}
+use Rattle.automaton.specs.Answers.{placedRow, unusedRow, placed, readingOf, readAnswer, ruleHeld, heldBy}
+use Rattle.writer.specs.Answers.{writing, Written}
 use Rattle.automaton.proofs.Files.{file-length}
 use Rattle.claims.specs.DraftFiles.{fileP}
 use Rattle.claims.specs.ComputedFiles.{opened, times, rule, heldP, looseP, longest, FileCases}
@@ -54,11 +57,11 @@ module _ (others : List ℕ) (rows : List Row) (after : List ℕ) (w : Writing) 
   valid : Valid (heldBy (looseP others rows))
   valid = rw (P-loose others rows) P-valid
 
-  P-written : Written (looseP others rows) (replicate 44 255) after w → (w ≡ writing 0 43) × (after ≡ fileP ++ (255 ∷ []))
+  P-written : Written (looseP others rows) (replicate 44 255) after w → (w ≡ writing noRefusal 43) × (after ≡ fileP ++ (255 ∷ []))
   unfolding fileP
   P-written x = rw file at (x .done valid (rw file (omega arith)))
 
-  P-unwritten : Written (looseP others rows) (replicate 42 255) after w → (w ≡ writing 6 0) × (after ≡ replicate 42 255)
+  P-unwritten : Written (looseP others rows) (replicate 42 255) after w → (w ≡ writing (refusal 6) 0) × (after ≡ replicate 42 255)
   unfolding fileP
   P-unwritten x = x .short valid (rw file (omega arith))
 

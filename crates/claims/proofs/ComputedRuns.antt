@@ -9,16 +9,17 @@ use borrow.Author.Tests.{eqb-true}
 use Rattle.sets.specs.Members.{has}
 use Rattle.sets.proofs.Bits.{has-pow, has-high}
 use Rattle.automaton.specs.Held.{Held}
+use Rattle.automaton.specs.Refusals.{refusal, noRefusal}
 use Rattle.trees.specs.declared.ReachedStates.{ReachedStates}
 use Rattle.trees.specs.declared.ProductiveStates.{ProductiveStates}
-use Rattle.trees.specs.Trees.{Tree, hole, node, []ᶠ, _∷ᶠ_}
+use Rattle.meaning.specs.Trees.{Tree, hole, node, []ᶠ, _∷ᶠ_}
 use Rattle.trees.specs.Words.{prefix, prefixes, count, IsTree, NoTree}
 use Rattle.trees.specs.Runs.{Reaches, ReachesEach, Accepted, Productive}
 use Rattle.trees.specs.Promises.{noRun, ProductivePromise}
 use Rattle.trees.specs.Piles.{put, pileOf, runTo, pileAnswer, wordsAnswer}
 use Rattle.trees.proofs.Answers.{answer-tree, one-set}
 use Rattle.claims.proofs.Drafts.{unused}
-use Rattle.trees.proofs.Lists.{of-all}
+use Rattle.ground.proofs.Lists.{of-all}
 use Rattle.claims.specs.DraftFiles.{fileUnused}
 use Rattle.claims.specs.WorkedDrafts.{leaf, over, pair}
 use Rattle.claims.specs.ComputedFiles.{rule, heldP}
@@ -32,23 +33,23 @@ unfolding prefix prefixes count
 one-tree = record { of-known = omega arith; in-order = refl; some-word = omega arith; few-words = omega arith }
 
 -- words that are refused are no tree
-refused : (held : Held) (words : List ℕ) → wordsAnswer held words ≡ noRun 7 → NoTree held words
+refused : (held : Held) (words : List ℕ) → wordsAnswer held words ≡ noRun (refusal 7) → NoTree held words
 unfolding noRun runTo
 refused held words e t is = let z = ap (λ (a : ReachedStates). a .refusal .number) (sym e ∙ answer-tree held words t is) in omega arith
 
-half : wordsAnswer heldP (1 ∷ 0 ∷ []) ≡ noRun 7
+half : wordsAnswer heldP (1 ∷ 0 ∷ []) ≡ noRun (refusal 7)
 unfolding wordsAnswer pileAnswer pileOf put
 half = refl
 
-two : wordsAnswer heldP (0 ∷ 0 ∷ []) ≡ noRun 7
+two : wordsAnswer heldP (0 ∷ 0 ∷ []) ≡ noRun (refusal 7)
 unfolding wordsAnswer pileAnswer pileOf put
 two = refl
 
-no-words : wordsAnswer heldP [] ≡ noRun 7
+no-words : wordsAnswer heldP [] ≡ noRun (refusal 7)
 unfolding wordsAnswer pileAnswer pileOf
 no-words = refl
 
-unknown : wordsAnswer heldP (2 ∷ []) ≡ noRun 7
+unknown : wordsAnswer heldP (2 ∷ []) ≡ noRun (refusal 7)
 unfolding wordsAnswer pileAnswer pileOf put
 unknown = refl
 
@@ -113,12 +114,11 @@ always (suc zero) e = absurd (never e)
 always (suc (suc zero)) e = (over 2 (leaf 0), reached-2)
 always (suc (suc (suc k))) e = absurd (never (sym (has-high 3 5 (suc (suc (suc k))) (omega arith) (omega arith)) ∙ e))
 
-productive : (r : ProductiveStates) → ProductivePromise fileUnused r → r ≡ record { refusal = record { number = 0 }; states = record { 0 = 5 } }
+productive : (r : ProductiveStates) → ProductivePromise fileUnused r → r ≡ record { refusal = noRefusal; states = record { 0 = 5 } }
 productive r p =
     let c = p .found unused (drafts-held .unused-held) in
-    let number = c .done in
     let states : r .states .0 ≡ 5 = one-set (r .states .0) 5 (λ q. (λ e. only q (c .productive q .0 e), λ e. c .productive q .1 (always q e))) in
-    λ i. record { refusal = record { number = number i }; states = record { 0 = states i } }
+    λ i. record { refusal = c .done i; states = record { 0 = states i } }
 
 pub run-cases : RunCases
 unfolding prefix prefixes

@@ -13,6 +13,8 @@ set-cases =
       none = refl;
       one = (refl, refl, refl);
       both = refl;
+      past = (refl, refl, refl, refl);
+      of-word = (refl, refl);
       taken-out = (refl, refl, refl);
       sizes = (refl, refl, refl);
     }

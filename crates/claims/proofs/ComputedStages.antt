@@ -4,15 +4,16 @@ use native.Mathlib.Omega.{arith}
 use mathlib.Core.Path.{_≡_, refl, ap, subst}
 use mathlib.Core.List.{List·Memᴰ, List·Memᴰ·head, List·Memᴰ·tail, List·Memᴰ·not-nil}
 use Rattle.sets.specs.Members.{has, setOf, emptySet, oneSet, union, without}
-use Rattle.trees.specs.Trees.{Tree, hole, []ᶠ}
-use Rattle.expressions.specs.Fillings.{Family, Filled, at, under, none, both}
-use Rattle.expressions.specs.Expressions.{holeᴱ, Denotes}
+use Rattle.meaning.specs.Trees.{Tree, hole, []ᶠ}
+use Rattle.meaning.specs.Fillings.{Family, Filled, at, under, none, both}
+use Rattle.meaning.specs.Expressions.{holeᴱ, Denotes}
 use Rattle.expressions.specs.Nodes.{labelOf, children, childCount}
 use Rattle.expressions.specs.Soundness.{catOpens, opensOf, opensIn, completed}
-use Rattle.expressions.proofs.Fillings.{filled-hole}
-use Rattle.elimination.specs.RowLists.{Row, finalTarget, those, ascending, finalStates}
-use Rattle.elimination.specs.Acceptance.{OpenOnly, fills, stays, AcceptsAt, Accepts}
-use Rattle.elimination.specs.Stages.{holesTable, ruleShape, rulesTable, startTable, ruleRows, start, altMade, catMade, iterMade, joinMadeFrom, joinMade, loopingNode, incomingNode, outgoingNode, standInMade, replacedMade, replacedRows, remainsNode, eliminatedStage, eliminatedStages, stageAfter, joinStage, converted, nodeBound}
+use Rattle.meaning.proofs.Fillings.{filled-hole}
+use Rattle.theory.specs.RowLists.{ExprRow, finalTarget, ascending, finalStates}
+use Rattle.ground.specs.Lists.{those}
+use Rattle.theory.specs.Acceptance.{OpenOnly, fills, stays, AcceptsAt, Accepts}
+use Rattle.theory.specs.Stages.{holesTable, ruleShape, rulesTable, startTable, ruleRows, start, altMade, catMade, iterMade, joinMadeFrom, joinMade, loopingNode, incomingNode, outgoingNode, standInMade, replacedMade, replacedRows, remainsNode, eliminatedStage, eliminatedStages, stageAfter, joinStage, converted, nodeBound}
 use Rattle.elimination.specs.Answers.{wholeNodes}
 use Rattle.claims.specs.WorkedDrafts.{leaf}
 use Rattle.claims.specs.Computed.{leafᴱ, waiting, StageCases}
@@ -29,10 +30,10 @@ toward-0 : (m : ℕ) (t : Tree) → AcceptsAt waiting m 0 t → t ≡ leaf 0
 toward-0 zero t x = absurd x
 toward-0 (suc m) t x = go (x .0) (x .1) (x .2) (x .3) (x .4) (x .5)
   where
-    go : (row : Row) → List·Memᴰ row waiting → row .target ≡ 0 → (s : Tree) → Denotes (row .expr) s → Filled (OpenOnly (row .expr) (AcceptsAt waiting m)) s t → t ≡ leaf 0
-    go row (List·Memᴰ·head e) j s d f = absurd (let z = ap (λ (r : Row). r .target) e in omega arith)
+    go : (row : ExprRow) → List·Memᴰ row waiting → row .target ≡ 0 → (s : Tree) → Denotes (row .expr) s → Filled (OpenOnly (row .expr) (AcceptsAt waiting m)) s t → t ≡ leaf 0
+    go row (List·Memᴰ·head e) j s d f = absurd (let z = ap (λ (r : ExprRow). r .target) e in omega arith)
     go row (List·Memᴰ·tail (List·Memᴰ·head e)) j s d f =
-        let d′ : Denotes (leafᴱ 0) s = subst (λ (r : Row). Denotes (r .expr) s) e d in
+        let d′ : Denotes (leafᴱ 0) s = subst (λ (r : ExprRow). Denotes (r .expr) s) e d in
         let e₁ = d′ .1 in
         let e₂ = d′ .2 in
         let l : s ≡ leaf 0 = cc in
@@ -47,12 +48,12 @@ open-hole family t (stays e) = absurd (let z : _≡_ {A = ℕ} 0 1 = cc in omega
 toward-16 : (m : ℕ) (t : Tree) → AcceptsAt waiting (suc m) finalTarget t → AcceptsAt waiting m 0 t
 toward-16 m t x = go (x .0) (x .1) (x .2) (x .3) (x .4) (x .5)
   where
-    go : (row : Row) → List·Memᴰ row waiting → row .target ≡ finalTarget → (s : Tree) → Denotes (row .expr) s → Filled (OpenOnly (row .expr) (AcceptsAt waiting m)) s t → AcceptsAt waiting m 0 t
+    go : (row : ExprRow) → List·Memᴰ row waiting → row .target ≡ finalTarget → (s : Tree) → Denotes (row .expr) s → Filled (OpenOnly (row .expr) (AcceptsAt waiting m)) s t → AcceptsAt waiting m 0 t
     go row (List·Memᴰ·head e) j s d f =
-        let d′ : s ≡ hole 0 = subst (λ (r : Row). Denotes (r .expr) s) e d in
-        let f′ : Filled (OpenOnly (holeᴱ 0) (AcceptsAt waiting m)) s t = subst (λ (r : Row). Filled (OpenOnly (r .expr) (AcceptsAt waiting m)) s t) e f in
+        let d′ : s ≡ hole 0 = subst (λ (r : ExprRow). Denotes (r .expr) s) e d in
+        let f′ : Filled (OpenOnly (holeᴱ 0) (AcceptsAt waiting m)) s t = subst (λ (r : ExprRow). Filled (OpenOnly (r .expr) (AcceptsAt waiting m)) s t) e f in
         open-hole (AcceptsAt waiting m) t (filled-hole (OpenOnly (holeᴱ 0) (AcceptsAt waiting m)) 0 s t d′ f′)
-    go row (List·Memᴰ·tail (List·Memᴰ·head e)) j s d f = absurd (let z = ap (λ (r : Row). r .target) e in omega arith)
+    go row (List·Memᴰ·tail (List·Memᴰ·head e)) j s d f = absurd (let z = ap (λ (r : ExprRow). r .target) e in omega arith)
     go row (List·Memᴰ·tail (List·Memᴰ·tail m)) j s d f = absurd (List·Memᴰ·not-nil m)
 
 accepts-2 : AcceptsAt waiting 2 finalTarget (leaf 0)

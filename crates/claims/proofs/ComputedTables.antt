@@ -8,16 +8,20 @@ use mathlib.Core.List.{List, [], _∷_}
 use lib.ListN.{length, take, replicate}
 use Rattle.sets.specs.Members.{has, setOf, emptySet, oneSet, union, without}
 use Rattle.automaton.specs.declared.Refusal.{Refusal}
-use Rattle.expressions.specs.Nodes.{Shape, Node, emptyShape, holeShape, symbolShape, iterShape, nodeAt, childCount, children, unused}
-use Rattle.expressions.specs.Words.{encode, decode, readNode, tableOf, putNode}
+use Rattle.automaton.specs.Refusals.{refusal}
+use Rattle.expressions.specs.declared.Shape.{Shape}
+use Rattle.expressions.specs.declared.Node.{Node}
+use Rattle.expressions.specs.Nodes.{emptyShape, holeShape, symbolShape, iterShape, nodeAt, childCount, children, unused}
+use Rattle.expressions.specs.Words.{encode, decode, readNode, nodeIn, tableOf, putNode}
 use Rattle.expressions.specs.Unfolding.{exprsOf, builtOf, built, unfolded, exprAt}
 use Rattle.expressions.specs.Soundness.{Fits, catOpens, opensOf, opensIn, completed, SoundNode, SoundNodes, Sound}
 use Rattle.expressions.specs.Sizes.{writtenSize, heldSize}
-use Rattle.expressions.specs.Listing.{decimalIn, decimal, kindName, labelFields, spaced, line, labelNumber, plainLabel, headFields, nodeLine}
-use Rattle.expressions.specs.Making.{refusal, Makes}
+use Rattle.ground.specs.Decimal.{decimalIn, decimal}
+use Rattle.listing.specs.Listing.{kindName, labelFields, spaced, line, labelNumber, plainLabel, headFields, nodeLine}
+use Rattle.expressions.specs.Making.{Makes}
 use Rattle.expressions.proofs.Words.{length-table}
 use Rattle.expressions.proofs.Soundness.{sound-none, sound-made}
-use Rattle.automaton.proofs.Deciding.{decides-no, decides-once}
+use Rattle.ground.proofs.Deciding.{decides-no, decides-once}
 use Rattle.claims.specs.WorkedDrafts.{wordsP}
 use Rattle.claims.specs.Computed.{doubled, Says, TableCases}
 
@@ -41,14 +45,14 @@ fits-three = record { labelled = omega arith; earlier = tt; zeros = (refl, (refl
 made-hole : (after : List ℕ) (r : Refusal) → Makes (replicate 13 7) 1 (holeShape 3) after r
     → (r ≡ refusal 0) × (after ≡ 7 ∷ 7 ∷ 7 ∷ 7 ∷ 7 ∷ 7 ∷ 1 ∷ 3 ∷ 0 ∷ 0 ∷ 0 ∷ 8 ∷ 7 ∷ [])
 unfolding putNode encode completed opensIn opensOf oneSet setOf
-made-hole after r m = m .done fits-three (record { few = omega arith; held = omega arith })
+made-hole after r m = m .done fits-three (record { few = omega arith; roomy = omega arith })
 
 made-of-itself : (after : List ℕ) (r : Refusal) → Makes [] 1 (iterShape 0 1) after r → (r ≡ refusal 8) × (after ≡ [])
 unfolding children childCount
 made-of-itself after r m = m .unfit (λ f. let h = f .earlier .0 in omega arith)
 
 made-without-room : (after : List ℕ) (r : Refusal) → Makes (replicate 11 7) 1 (holeShape 3) after r → (r ≡ refusal 6) × (after ≡ replicate 11 7)
-made-without-room after r m = m .full fits-three (λ k. let h = k .held in omega arith)
+made-without-room after r m = m .full fits-three (λ k. let h = k .roomy in omega arith)
 
 -- ---- soundness
 
@@ -80,7 +84,7 @@ one-node words shape h e fits =
     record {
       some = omega arith;
       few = omega arith;
-      held = h;
+      roomy = h;
       within = omega arith;
       kept = rw e (sound-made [] shape sound-none fits);
     }
@@ -103,7 +107,7 @@ two-arities =
     record {
       some = omega arith;
       few = omega arith;
-      held = omega arith;
+      roomy = omega arith;
       within = omega arith;
       kept = sound-made (completed [] (symbolShape 0 0 0 0) ∷ []) (symbolShape 256 0 0 0) (sound-made [] (symbolShape 0 0 0 0) sound-none fits-leaf) fits-over;
     }
@@ -114,7 +118,7 @@ unfolding SoundNodes
 broken words count answer i h n = says-no words count answer (λ s. n (s .kept i (omega (arith, length-table words count))))
 
 pub table-cases : TableCases
-unfolding doubled catOpens opensOf opensIn completed has setOf emptySet oneSet union without exprAt unfolded built builtOf exprsOf children childCount unused tableOf readNode decode wordsP decimal decimalIn kindName labelFields spaced line labelNumber plainLabel headFields nodeLine
+unfolding doubled catOpens opensOf opensIn completed has setOf emptySet oneSet union without exprAt unfolded built builtOf exprsOf children childCount unused tableOf nodeIn readNode decode wordsP decimal decimalIn kindName labelFields spaced line labelNumber plainLabel headFields nodeLine
 table-cases =
     record {
       opens-empty = refl;
@@ -137,11 +141,13 @@ table-cases =
       made-hole = made-hole;
       made-of-itself = made-of-itself;
       made-without-room = made-without-room;
+      node-read = refl;
+      node-not-whole = refl;
       sound-one = says-yes (0 ∷ 0 ∷ 0 ∷ 0 ∷ 0 ∷ 0 ∷ []) 1 0 sound-one;
       sound-more-words = says-yes (0 ∷ 0 ∷ 0 ∷ 0 ∷ 0 ∷ 0 ∷ 7 ∷ 8 ∷ []) 1 0 sound-more;
       count-0 = λ words answer. says-no words 0 answer (λ s. let h = s .some in omega arith);
       count-4097 = λ words answer. says-no words 4097 answer (λ s. let h = s .few in omega arith);
-      words-short = says-no (0 ∷ 0 ∷ 0 ∷ 0 ∷ 0 ∷ []) 1 0 (λ s. let h = s .held in omega arith);
+      words-short = says-no (0 ∷ 0 ∷ 0 ∷ 0 ∷ 0 ∷ []) 1 0 (λ s. let h = s .roomy in omega arith);
       answer-past = says-no (0 ∷ 0 ∷ 0 ∷ 0 ∷ 0 ∷ 0 ∷ []) 1 1 (λ s. let h = s .within in omega arith);
       kind-6 = broken (6 ∷ 0 ∷ 0 ∷ 0 ∷ 0 ∷ 0 ∷ []) 1 0 0 (omega arith) (λ n. n .fits .labelled);
       label-used = broken (0 ∷ 1 ∷ 0 ∷ 0 ∷ 0 ∷ 0 ∷ []) 1 0 0 (omega arith) (λ n. let e = n .fits .labelled in omega arith);

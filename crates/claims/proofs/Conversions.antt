@@ -11,34 +11,37 @@ use Rattle.sets.specs.Members.{has, size, stateWidth}
 use Rattle.automaton.specs.Held.{Held, Valid}
 use Rattle.automaton.specs.Checks.{verdict, holds}
 use Rattle.automaton.proofs.Pair.{verdict-valid}
-use Rattle.automaton.proofs.Places.{filled-take}
+use Rattle.ground.proofs.Places.{filled-take}
 use Rattle.trees.specs.declared.ReachedStates.{ReachedStates}
-use Rattle.trees.specs.Trees.{Tree}
+use Rattle.meaning.specs.Trees.{Tree}
 use Rattle.trees.specs.Words.{IsTree}
 use Rattle.trees.specs.Runs.{Accepted}
 use Rattle.trees.specs.Promises.{RunPromise}
 use Rattle.expressions.specs.declared.Measured.{Measured}
-use Rattle.expressions.specs.declared.Listed.{Listed}
-use Rattle.expressions.specs.Expressions.{Denotes}
+use Rattle.listing.specs.declared.Listed.{Listed}
+use Rattle.meaning.specs.Expressions.{Denotes}
 use Rattle.expressions.specs.Nodes.{Table, nodeAt}
 use Rattle.expressions.specs.Words.{nodeWidth, tableOf, wordsOf}
 use Rattle.expressions.specs.Unfolding.{exprAt}
 use Rattle.expressions.specs.Soundness.{Sound}
-use Rattle.expressions.specs.Answers.{SoundAnswer, Measures, Lists, listingOf}
+use Rattle.expressions.specs.Answers.{SoundAnswer, Measures}
+use Rattle.listing.specs.Answers.{Lists, listingOf}
 use Rattle.expressions.proofs.Words.{table-words}
 use Rattle.elimination.specs.declared.ListRow.{ListRow}
 use Rattle.elimination.specs.declared.Partly.{Partly}
 use Rattle.elimination.specs.declared.Wholly.{Wholly}
-use Rattle.elimination.specs.RowLists.{Row, finalTarget}
-use Rattle.elimination.specs.Acceptance.{Accepts}
-use Rattle.elimination.specs.Stages.{NodeRow, Stage, unfoldedRow, unfoldedRows, stageAfter, waitsFor, nodeBound, boundOf}
-use Rattle.elimination.specs.Answers.{wholeNodes, writtenTo, listPlaces, unusedPlace, listRow, listOfRows, partlyDone, PartlyAnswered, madeAnswered, WhollyAnswered}
-use Rattle.elimination.specs.Theorem.{PartlyConverted}
-use Rattle.elimination.proofs.Bound.{finals-count, bound-file}
-use Rattle.elimination.proofs.Theorem.{partly-ascending}
+use Rattle.theory.specs.RowLists.{ExprRow, finalTarget, listPlaces}
+use Rattle.theory.specs.Acceptance.{Accepts}
+use Rattle.theory.specs.declared.NodeRow.{NodeRow}
+use Rattle.theory.specs.Stages.{Stage, unfoldedRow, unfoldedRows, stageAfter, waitsFor, boundOf}
+use Rattle.elimination.specs.Answers.{wholeNodes, writtenTo, unusedPlace, listRow, listOfRows, partlyDone, PartlyAnswered, madeAnswered, WhollyAnswered}
+use Rattle.theory.specs.Theorem.{PartlyConverted}
+use Rattle.theory.proofs.Bound.{start-room, start-rows, finals-count, bound-file}
+use Rattle.theory.proofs.Theorem.{partly-ascending}
 use Rattle.elimination.proofs.OnWords.{stage-words-sound}
 use Rattle.elimination.proofs.Outcomes.{partly-fits, wholly-fits, wholly-sound}
-use Rattle.claims.specs.Conversions.{reported, rowIn, stated, Stopped, Ended, ConvertsFaithfully}
+use Rattle.front.specs.Answers.{mostMade}
+use Rattle.claims.specs.Conversions.{reported, rowIn, Stopped, Ended, ConvertsFaithfully}
 use Rattle.claims.proofs.Done.{whole-room, part-near, part-room}
 
 -- ---- at every stop
@@ -88,11 +91,11 @@ module _ (held : Held) (v : Valid held) (k : ℕ) (near : k ≤ held .states) (s
   unfolding partlyDone listRow waitsFor
   stop =
       record {
-        accepts = λ t. subst (λ (list : List Row). Accepts list t ↔ Accepted held t) (sym as-unfolded) (p .accepts t);
+        accepts = λ t. subst (λ (list : List ExprRow). Accepts list t ↔ Accepted held t) (sym as-unfolded) (p .accepts t);
         not-open = each-row (λ row. (q : ℕ) → q < k → has (nodeAt (tableOf words (length (stage .table))) (row .node) .opens) q ≡ false) (λ r m q h. rw is (p .not-open r m q h));
         not-aimed = each-row (λ row. k ≤ row .target) left;
         waits = each-row (λ row. row .waits ≡ size stateWidth (nodeAt (tableOf words (length (stage .table))) (row .node) .opens)) (λ r m. rw is);
-        no-more-rows = omega (arith, p .no-more-rows, finals-count held v);
+        no-more-rows = omega (arith, p .no-more-rows, start-rows held);
         all-reported = ap length rows ∙ length-map (stage .rows) (listRow (stage .table));
         sound = each-row (λ row. (s : Bool) → SoundAnswer words (length (stage .table)) (row .node) s → s ≡ true) (λ r m s d. d .always (sound-at r m));
       }
@@ -148,20 +151,15 @@ agree file before after r x z held e words tree is s p =
 
 -- ---- room
 
--- f is the number of final states
-bound-stated : (held : Held) → Valid held → boundOf held ≡ stated held
-unfolding nodeBound
-bound-stated held v = ap (λ (f : ℕ). nodeBound (held .states) (length (held .rules)) f) (finals-count held v)
-
 module _ (file : List ℕ) (held : Held) (e : verdict file ≡ holds held) where
-  most : stated held ≤ 1393
-  most = let v = verdict-valid file held e in omega (arith, bound-stated held v, bound-file held v)
+  most : boundOf held ≤ mostMade
+  most = bound-file held (verdict-valid file held e)
 
-  room : (before after : List ℕ) (r : Wholly) → WhollyAnswered file before after r → stated held ≤ wholeNodes before → r .refusal .number ≡ 0
-  room before after r x h = wholly-fits file before after r x held e (omega (arith, bound-stated held (verdict-valid file held e)))
+  room : (before after : List ℕ) (r : Wholly) → WhollyAnswered file before after r → boundOf held ≤ wholeNodes before → r .refusal .number ≡ 0
+  room before after r x h = wholly-fits file before after r x held e h
 
-  partly-room : (k : ℕ) (before after : List ℕ) (r : Partly) → PartlyAnswered file k before after r → k ≤ held .states → stated held ≤ wholeNodes before → r .refusal .number ≡ 0
-  partly-room k before after r x near h = partly-fits file k before after r x held e near (omega (arith, bound-stated held (verdict-valid file held e)))
+  partly-room : (k : ℕ) (before after : List ℕ) (r : Partly) → PartlyAnswered file k before after r → k ≤ held .states → boundOf held ≤ wholeNodes before → r .refusal .number ≡ 0
+  partly-room k before after r x near h = partly-fits file k before after r x held e near h
 
 pub converts-faithfully : ConvertsFaithfully
 converts-faithfully =
@@ -169,6 +167,9 @@ converts-faithfully =
       stopped = stopped;
       ended = ended;
       agree = agree;
+      start-rows = start-rows;
+      start-nodes = λ file held e. start-room held (verdict-valid file held e);
+      finals-counted = λ file held e. finals-count held (verdict-valid file held e);
       room = λ file before after r x held e h. room file held e before after r x h;
       partly-room = λ file k before after r x held e near h. partly-room file held e k before after r x near h;
       most = λ file held e. most file held e;

@@ -9,7 +9,7 @@ use Rattle.automaton.specs.Held.{Held}
 use Rattle.automaton.specs.Checks.{holds, verdict}
 use Rattle.elimination.specs.declared.Partly.{Partly}
 use Rattle.elimination.specs.declared.Wholly.{Wholly}
-use Rattle.elimination.specs.Stages.{stageAfter, converted}
+use Rattle.theory.specs.Stages.{stageAfter, converted}
 use Rattle.elimination.specs.Answers.{wholeNodes, refusedPartly, PartlyAnswered, refusedWhole, WhollyAnswered}
 
 -- ---- a full conversion

@@ -6,7 +6,8 @@ use mathlib.Core.List.{List, [], _∷_}
 use Rattle.sets.specs.Members.{has, setOf}
 use Rattle.trees.specs.declared.ReachedStates.{ReachedStates}
 use Rattle.trees.specs.Promises.{noRun, RunPromise}
-use Rattle.trees.specs.Piles.{any, anyBelow, meets, eachIn, gives, reachedFrom, put, pileOf, runTo, pileAnswer, wordsAnswer}
+use Rattle.ground.specs.Lists.{anyOf, anyBelow}
+use Rattle.trees.specs.Piles.{meets, eachIn, gives, reachedFrom, put, pileOf, runTo, pileAnswer, wordsAnswer}
 use Rattle.trees.proofs.Promised.{answerFor, runAnswer, run-answer}
 use Rattle.claims.proofs.Drafts.{P}
 use Rattle.claims.specs.DraftFiles.{fileP}
@@ -19,19 +20,19 @@ unfolding runAnswer answerFor
 of-P words r x = rw (drafts-held .P-held) at (run-answer fileP words r x)
 
 pub P-100 : (r : ReachedStates) → RunPromise fileP (1 ∷ 0 ∷ 0 ∷ []) r → r ≡ ran 0 (2 ^ 1) true
-unfolding wordsAnswer pileAnswer pileOf put reachedFrom gives eachIn meets anyBelow any runTo noRun has setOf
+unfolding wordsAnswer pileAnswer pileOf put reachedFrom gives eachIn meets anyBelow anyOf runTo noRun has setOf
 P-100 r x = of-P _ r x
 
 pub P-11000 : (r : ReachedStates) → RunPromise fileP (1 ∷ 1 ∷ 0 ∷ 0 ∷ 0 ∷ []) r → r ≡ ran 0 (2 ^ 1) true
-unfolding wordsAnswer pileAnswer pileOf put reachedFrom gives eachIn meets anyBelow any runTo noRun has setOf
+unfolding wordsAnswer pileAnswer pileOf put reachedFrom gives eachIn meets anyBelow anyOf runTo noRun has setOf
 P-11000 r x = of-P _ r x
 
 pub P-10100 : (r : ReachedStates) → RunPromise fileP (1 ∷ 0 ∷ 1 ∷ 0 ∷ 0 ∷ []) r → r ≡ ran 0 0 false
-unfolding wordsAnswer pileAnswer pileOf put reachedFrom gives eachIn meets anyBelow any runTo noRun has setOf
+unfolding wordsAnswer pileAnswer pileOf put reachedFrom gives eachIn meets anyBelow anyOf runTo noRun has setOf
 P-10100 r x = of-P _ r x
 
 pub P-0 : (r : ReachedStates) → RunPromise fileP (0 ∷ []) r → r ≡ ran 0 (2 ^ 0) false
-unfolding wordsAnswer pileAnswer pileOf put reachedFrom gives eachIn meets anyBelow any runTo noRun has setOf
+unfolding wordsAnswer pileAnswer pileOf put reachedFrom gives eachIn meets anyBelow anyOf runTo noRun has setOf
 P-0 r x = of-P _ r x
 
 pub P-10 : (r : ReachedStates) → RunPromise fileP (1 ∷ 0 ∷ []) r → r ≡ ran 7 0 false

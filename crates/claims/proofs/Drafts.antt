@@ -1,77 +1,96 @@
--- Document 01, "Worked drafts": what the definitions give for them, node by node, and which trees they denote. States are as few as fit, and symbols are numbered in the order in which they are named.
+-- What the definitions give for the worked drafts, node by node, and which trees they denote.
 use Prim.Native.Nat.{ℕ, _^_}
 use native.Mathlib.Omega.{arith}
 use mathlib.Core.Path.{_≡_, refl, sym, _∙_, ap, subst}
-use mathlib.Core.Bool.{true}
-use mathlib.Core.List.{List, [], _∷_, List·Memᴰ, List·Memᴰ·head, List·Memᴰ·tail, List·Memᴰ·not-nil}
+use mathlib.Core.Bool.{true, false≢true}
+use mathlib.Core.List.{List, [], _∷_, _++_, map, List·Memᴰ, List·Memᴰ·head, List·Memᴰ·tail, List·Memᴰ·not-nil, List·Memᴰ·append-cases, Memᴰ·append-left, Memᴰ·append-right, Memᴰ·map, Memᴰ·of-map, Memᴰ·cast}
 use mathlib.Core.Logic.{_⊎_, inl, inr, _↔_}
-use lib.ListN.{length}
+use lib.ListN.{length, getD}
 use borrow.Author.Tests.{eqb-true, eq-eqb}
 use Rattle.sets.specs.Members.{has, setOf, emptySet, oneSet, union, without}
-use Rattle.sets.proofs.Bits.{has-pow}
+use Rattle.sets.proofs.Bits.{has-pow, has-zero}
 use Rattle.automaton.specs.Held.{Rule, Held, Valid}
-use Rattle.trees.specs.Trees.{Tree, Forest, hole, node, []ᶠ, _∷ᶠ_}
+use Rattle.meaning.specs.Trees.{Tree, Forest, hole, node, []ᶠ, _∷ᶠ_}
 use Rattle.trees.specs.Runs.{Reaches, ReachesEach, Accepted}
-use Rattle.expressions.specs.Expressions.{Denotes}
+use Rattle.meaning.specs.Expressions.{Denotes}
 use Rattle.expressions.specs.Nodes.{labelOf, children, childCount}
 use Rattle.expressions.specs.Words.{encode, wordsOf}
 use Rattle.expressions.specs.Unfolding.{exprAt}
 use Rattle.expressions.specs.Soundness.{catOpens, opensOf, opensIn, completed}
-use Rattle.elimination.specs.RowLists.{those, ascending, finalStates}
-use Rattle.elimination.specs.Stages.{holesTable, ruleShape, rulesTable, startTable, ruleRows, start, altMade, catMade, iterMade, joinMadeFrom, joinMade, loopingNode, incomingNode, outgoingNode, standInMade, replacedMade, replacedRows, remainsNode, eliminatedStage, eliminatedStages, stageAfter, joinStage, converted, nodeBound, boundOf}
-use Rattle.elimination.proofs.Theorem.{wholly-ascending}
-use Rattle.claims.specs.WorkedDrafts.{leaf, over, pair, wordsP}
+use Rattle.ground.specs.Lists.{those}
+use Rattle.theory.specs.RowLists.{ascending, finalStates}
+use Rattle.theory.specs.Stages.{holesTable, ruleShape, rulesTable, startTable, ruleRows, start, altMade, catMade, iterMade, joinMadeFrom, joinMade, loopingNode, incomingNode, outgoingNode, standInMade, replacedMade, replacedRows, remainsNode, eliminatedStage, eliminatedStages, stageAfter, joinStage, converted, nodeBound, boundOf}
+use Rattle.theory.proofs.Theorem.{wholly-ascending}
+use Rattle.claims.specs.WorkedDrafts.{leaf, over, pair, wordsP, wordsOrder, wordsGrouping, Chain, ends, goes}
 use Rattle.claims.specs.ComputedFiles.{rule, heldP}
 
--- "File P"
+-- what the drafts' files hold [10.2, 10.9 to 10.16]
 abbrev pub P : Held
 P = heldP
 
--- "a to 0, b to 0, g(0,0) to 1, final 1"
 abbrev pub pairs : Held
 pairs = record { states = 2; finals = 2; arities = 0 ∷ 0 ∷ 2 ∷ []; rules = rule 0 0 [] ∷ rule 1 0 [] ∷ rule 2 1 (0 ∷ 0 ∷ []) ∷ [] }
 
--- "a to 0, g(0,0) to 0, final 0"
 abbrev pub nested : Held
 nested = record { states = 1; finals = 1; arities = 0 ∷ 2 ∷ []; rules = rule 0 0 [] ∷ rule 1 0 (0 ∷ 0 ∷ []) ∷ [] }
 
--- "h(0) to 0, final 0"
 abbrev pub endless : Held
 endless = record { states = 1; finals = 1; arities = 1 ∷ []; rules = rule 0 0 (0 ∷ []) ∷ [] }
 
--- "One state, final, no rows."
 abbrev pub rowless : Held
 rowless = record { states = 1; finals = 1; arities = 0 ∷ []; rules = [] }
 
--- "a to 0, no final"
 abbrev pub finalless : Held
 finalless = record { states = 1; finals = 0; arities = 0 ∷ []; rules = rule 0 0 [] ∷ [] }
 
--- "States 0 to 2, a to 0, h(1) to 0, g(0) to 2, final 2"
 abbrev pub unused : Held
 unused = record { states = 3; finals = 4; arities = 0 ∷ 1 ∷ 1 ∷ []; rules = rule 0 0 [] ∷ rule 1 0 (1 ∷ []) ∷ rule 2 2 (0 ∷ []) ∷ [] }
+
+-- leaves to 0, and symbols over 0 to 0
+abbrev pub chainRules : List ℕ → List ℕ → List Rule
+chainRules leaves overs = map (λ f. rule f 0 []) leaves ++ map (λ f. rule f 0 (0 ∷ [])) overs
+
+abbrev pub order : Held
+order = record { states = 1; finals = 1; arities = 0 ∷ 0 ∷ 1 ∷ 1 ∷ []; rules = chainRules (0 ∷ 1 ∷ []) (2 ∷ 3 ∷ []) }
+
+abbrev pub grouping : Held
+grouping = record { states = 1; finals = 1; arities = 0 ∷ 0 ∷ 0 ∷ 1 ∷ 1 ∷ 1 ∷ []; rules = chainRules (0 ∷ 1 ∷ 2 ∷ []) (3 ∷ 4 ∷ 5 ∷ []) }
+
+-- P with its symbols exchanged
+abbrev pub exchanged : Held
+exchanged = record { states = 2; finals = 2; arities = 2 ∷ 0 ∷ []; rules = rule 1 0 [] ∷ rule 0 1 (0 ∷ 0 ∷ []) ∷ rule 0 1 (1 ∷ 0 ∷ []) ∷ [] }
 
 -- an answer of so many nodes
 abbrev pub Gives : Held → ℕ → ℕ → Type 0
 Gives held answer count = (converted held .node ≡ answer) × (length (converted held .table) ≡ count)
 
 pub record Numbers : Type 0 where
-  -- "P: 10 nodes, answer 9 .. Bound 17."
   pub P-gives : Gives P 9 10
   pub P-bound : boundOf P ≡ 17
   pub P-words : wordsOf (converted P .table) ≡ wordsP
-  -- "After 1 step: 8 nodes"
   pub P-one-nodes : length (stageAfter 1 P .table) ≡ 8
-  -- "answer 7 of 8 nodes", "answer 5 of 6 nodes", "answer 4 of 5 nodes", "answer 0 of 2 nodes", "answer 0 of 3", "answer 9 of 10 nodes"
   pub pairs-gives : Gives pairs 7 8
   pub nested-gives : Gives nested 5 6
   pub endless-gives : Gives endless 4 5
   pub rowless-gives : Gives rowless 0 2
   pub finalless-gives : Gives finalless 0 3
   pub unused-gives : Gives unused 9 10
+  pub order-gives : Gives order 9 10
+  pub order-words : wordsOf (converted order .table) ≡ wordsOrder
+  pub grouping-gives : Gives grouping 13 14
+  pub grouping-words : wordsOf (converted grouping .table) ≡ wordsGrouping
+  pub exchanged-gives : Gives exchanged 9 10
+  -- the label of the first symbol node, and of the one after it, where others than P have another
+  pub pairs-label : (rest : List ℕ) → getD (wordsOf (converted pairs .table) ++ rest) 25 0 ≡ 1
+  pub exchanged-label : (rest : List ℕ) → getD (wordsOf (converted exchanged .table) ++ rest) 19 0 ≡ 1
+  -- the kind of P's node 6, and of its node 8: past the table as long as it is not made
+  pub P-none-6 : (rest : List ℕ) → getD (wordsOf (stageAfter 0 P .table) ++ rest) 36 0 ≡ getD rest 0 0
+  pub P-one-6 : (rest : List ℕ) → getD (wordsOf (stageAfter 1 P .table) ++ rest) 36 0 ≡ 4
+  pub P-one-8 : (rest : List ℕ) → getD (wordsOf (stageAfter 1 P .table) ++ rest) 48 0 ≡ getD rest 0 0
+  pub P-both-8 : (rest : List ℕ) → getD (wordsOf (stageAfter 2 P .table) ++ rest) 48 0 ≡ 5
 
 pub numbers : Numbers
-unfolding wordsP nodeBound wordsOf encode converted stageAfter eliminatedStages eliminatedStage start startTable holesTable rulesTable ruleShape ruleRows finalStates those ascending joinStage joinMade joinMadeFrom altMade catMade iterMade standInMade replacedRows replacedMade loopingNode incomingNode outgoingNode remainsNode completed opensIn opensOf catOpens children childCount labelOf has union without oneSet emptySet setOf
+unfolding wordsP wordsOrder wordsGrouping nodeBound wordsOf encode converted stageAfter eliminatedStages eliminatedStage start startTable holesTable rulesTable ruleShape ruleRows finalStates those ascending joinStage joinMade joinMadeFrom altMade catMade iterMade standInMade replacedRows replacedMade loopingNode incomingNode outgoingNode remainsNode completed opensIn opensOf catOpens children childCount labelOf has union without oneSet emptySet setOf
 numbers = record {
   P-gives = (refl, refl);
   P-bound = refl;
@@ -83,6 +102,17 @@ numbers = record {
   rowless-gives = (refl, refl);
   finalless-gives = (refl, refl);
   unused-gives = (refl, refl);
+  order-gives = (refl, refl);
+  order-words = refl;
+  grouping-gives = (refl, refl);
+  grouping-words = refl;
+  exchanged-gives = (refl, refl);
+  pairs-label = λ rest. refl;
+  exchanged-label = λ rest. refl;
+  P-none-6 = λ rest. refl;
+  P-one-6 = λ rest. refl;
+  P-one-8 = λ rest. refl;
+  P-both-8 = λ rest. refl;
 }
 
 -- ---- which trees they denote
@@ -98,6 +128,18 @@ endless-valid = omega arith
 
 unused-valid : Valid unused
 unused-valid = omega arith
+
+rowless-valid : Valid rowless
+rowless-valid = omega arith
+
+finalless-valid : Valid finalless
+finalless-valid = omega arith
+
+order-valid : Valid order
+order-valid = omega arith
+
+grouping-valid : Valid grouping
+grouping-valid = omega arith
 
 -- the answer denotes the tree
 abbrev pub AnswerDenotes : Held → Tree → Type 0
@@ -127,7 +169,8 @@ module _ (rules : List Rule) where
   each-of : (ts : Forest) (r s : Rule) → r ≡ s → ReachesEach rules ts (r .sources) → ReachesEach rules ts (s .sources)
   each-of ts r s e x = subst (λ (r : Rule). ReachesEach rules ts (r .sources)) e x
 
--- "denotes g(a,a), g(a,b), g(b,a), g(b,b) and no other"
+-- ---- the four pairs
+
 abbrev pub Leaf : Tree → Type 0
 Leaf t = (t ≡ leaf 0) ⊎ (t ≡ leaf 1)
 
@@ -169,7 +212,8 @@ pairs-denotes t = (λ x. of (wholly-ascending pairs pairs-valid .denotes t .0 x)
         rw (x .2)
         (1, is-final 1, (rule 2 1 (0 ∷ 0 ∷ []), List·Memᴰ·tail (List·Memᴰ·tail (List·Memᴰ·head refl)), refl, refl, (leaf-pairs (x .0) (x .3), (leaf-pairs (x .1) (x .4), tt))))
 
--- "denotes g(g(a,a),a)"
+-- ---- among others
+
 pub nested-denotes : AnswerDenotes nested (pair 1 (pair 1 (leaf 0) (leaf 0)) (leaf 0))
 nested-denotes = wholly-ascending nested nested-valid .denotes (pair 1 (pair 1 (leaf 0) (leaf 0)) (leaf 0)) .1 (0, is-final 0, g (pair 1 (leaf 0) (leaf 0)) (leaf 0) (g (leaf 0) (leaf 0) a a) a)
   where
@@ -179,7 +223,18 @@ nested-denotes = wholly-ascending nested nested-valid .denotes (pair 1 (pair 1 (
     g : (t u : Tree) → Reaches (nested .rules) t 0 → Reaches (nested .rules) u 0 → Reaches (nested .rules) (pair 1 t u) 0
     g t u x y = (rule 1 0 (0 ∷ 0 ∷ []), List·Memᴰ·tail (List·Memᴰ·head refl), refl, refl, (x, (y, tt)))
 
--- "denotes nothing"
+-- ---- nothing
+
+rowless-none : (t : Tree) (q : ℕ) → Reaches (rowless .rules) t q → ⊥
+rowless-none (hole p) q x = x
+rowless-none (node f ts) q x = List·Memᴰ·not-nil (x .1)
+
+pub rowless-denotes : (t : Tree) → AnswerDenotes rowless t → ⊥
+rowless-denotes t x = let c = wholly-ascending rowless rowless-valid .denotes t .0 x in rowless-none t (c .0) (c .2)
+
+pub finalless-denotes : (t : Tree) → AnswerDenotes finalless t → ⊥
+finalless-denotes t x = let c = wholly-ascending finalless finalless-valid .denotes t .0 x in false≢true (sym (has-zero (c .0)) ∙ c .1)
+
 endless-sources : (ts : Forest) (r : Rule) → List·Memᴰ r (endless .rules) → ReachesEach (endless .rules) ts (r .sources) → ReachesEach (endless .rules) ts (0 ∷ [])
 endless-sources ts r (List·Memᴰ·head e) x = each-of (endless .rules) ts r (rule 0 0 (0 ∷ [])) e x
 endless-sources ts r (List·Memᴰ·tail m) x = absurd (List·Memᴰ·not-nil m)
@@ -196,7 +251,8 @@ mutual
 pub endless-denotes : (t : Tree) → AnswerDenotes endless t → ⊥
 endless-denotes t x = let c = wholly-ascending endless endless-valid .denotes t .0 x in endless-none t (c .0) (c .2)
 
--- "denotes g(a) alone"
+-- ---- one tree
+
 unused-none : (t : Tree) → Reaches (unused .rules) t 1 → ⊥
 unused-none (hole p) x = x
 unused-none (node f ts) x = go (x .0) (x .1) (x .3)
@@ -245,3 +301,52 @@ unused-denotes t = (λ x. of (wholly-ascending unused unused-valid .denotes t .0
       is-final 2,
       (rule 2 2 (0 ∷ []), List·Memᴰ·tail (List·Memᴰ·tail (List·Memᴰ·head refl)), refl, refl, ((rule 0 0 [], List·Memᴰ·head refl, refl, refl, tt), tt)),
     )
+
+-- ---- leaves under any number of symbols
+
+module _ (leaves overs : List ℕ) where
+  ends-at : (f : ℕ) (ts : Forest) → List·Memᴰ f leaves → ReachesEach (chainRules leaves overs) ts [] → Chain leaves overs (node f ts)
+  ends-at f []ᶠ m x = ends m
+  ends-at f (t ∷ᶠ ts) m x = absurd x
+
+  -- the row that was used is a leaf's, or one over a subtree
+  row-of : (f : ℕ) (ts : Forest) → (List·Memᴰ f overs → ReachesEach (chainRules leaves overs) ts (0 ∷ []) → Chain leaves overs (node f ts))
+      → (r : Rule) → r .symbol ≡ f → ReachesEach (chainRules leaves overs) ts (r .sources)
+      → List·Memᴰ r (map (λ g. rule g 0 []) leaves) ⊎ List·Memᴰ r (map (λ g. rule g 0 (0 ∷ [])) overs) → Chain leaves overs (node f ts)
+  row-of f ts over-one r s x (inl m) =
+      let c = Memᴰ·of-map (λ g. rule g 0 []) leaves m in
+      ends-at f ts (Memᴰ·cast (sym s ∙ sym (ap (λ (a : Rule). a .symbol) (c .2))) (c .1)) (each-of (chainRules leaves overs) ts r (rule (c .0) 0 []) (sym (c .2)) x)
+  row-of f ts over-one r s x (inr m) =
+      let c = Memᴰ·of-map (λ g. rule g 0 (0 ∷ [])) overs m in
+      over-one (Memᴰ·cast (sym s ∙ sym (ap (λ (a : Rule). a .symbol) (c .2))) (c .1)) (each-of (chainRules leaves overs) ts r (rule (c .0) 0 (0 ∷ [])) (sym (c .2)) x)
+
+  mutual
+    chain-of : (t : Tree) → Reaches (chainRules leaves overs) t 0 → Chain leaves overs t
+    chain-of (hole p) x = absurd x
+    chain-of (node f ts) x = row-of f ts (λ m y. chain-over f ts m y) (x .0) (x .2) (x .4) (List·Memᴰ·append-cases (map (λ g. rule g 0 []) leaves) (x .1))
+
+    chain-over : (f : ℕ) (ts : Forest) → List·Memᴰ f overs → ReachesEach (chainRules leaves overs) ts (0 ∷ []) → Chain leaves overs (node f ts)
+    chain-over f []ᶠ m x = absurd x
+    chain-over f (t ∷ᶠ []ᶠ) m x = goes m (chain-of t (x .0))
+    chain-over f (t ∷ᶠ u ∷ᶠ ts) m x = absurd (x .1)
+
+  of-chain : (t : Tree) → Chain leaves overs t → Reaches (chainRules leaves overs) t 0
+  of-chain t (ends {f = f} m) = (rule f 0 [], Memᴰ·append-left _ (Memᴰ·map (λ g. rule g 0 []) m), refl, refl, tt)
+  of-chain t (goes {f = f} {t = u} m c) =
+      (rule f 0 (0 ∷ []), Memᴰ·append-right (map (λ g. rule g 0 []) leaves) (Memᴰ·map (λ g. rule g 0 (0 ∷ [])) m), refl, refl, (of-chain u c, tt))
+
+  -- with state 0 final
+  accepts-chain : (held : Held) → held .finals ≡ 1 → held .rules ≡ chainRules leaves overs → (t : Tree) → Accepted held t ↔ Chain leaves overs t
+  accepts-chain held e d t = (λ x. chain-of t (rw (d, only-final 0 (x .0) (rw e at (x .1))) at (x .2)), λ c. (0, rw e (is-final 0), rw d (of-chain t c)))
+
+pub order-denotes : (t : Tree) → AnswerDenotes order t ↔ Chain (0 ∷ 1 ∷ []) (2 ∷ 3 ∷ []) t
+order-denotes t =
+    let a = accepts-chain (0 ∷ 1 ∷ []) (2 ∷ 3 ∷ []) order refl refl t in
+    let d = wholly-ascending order order-valid .denotes t in
+    (λ x. a .0 (d .0 x), λ c. d .1 (a .1 c))
+
+pub grouping-denotes : (t : Tree) → AnswerDenotes grouping t ↔ Chain (0 ∷ 1 ∷ 2 ∷ []) (3 ∷ 4 ∷ 5 ∷ []) t
+grouping-denotes t =
+    let a = accepts-chain (0 ∷ 1 ∷ 2 ∷ []) (3 ∷ 4 ∷ 5 ∷ []) grouping refl refl t in
+    let d = wholly-ascending grouping grouping-valid .denotes t in
+    (λ x. a .0 (d .0 x), λ c. d .1 (a .1 c))

@@ -1,8 +1,8 @@
 -- What the drafts' files hold, computed from their bytes.
 use mathlib.Core.Path.{_≡_, refl}
 use Rattle.automaton.specs.Checks.{holds, numberAt, kindAllowed, lengthAllowed, headValues, symbolValues, allBelow, rowValues, values, recordFound, verdictFrom, verdict}
-use Rattle.claims.proofs.Drafts.{P, pairs, nested, endless, rowless, finalless, unused}
-use Rattle.claims.specs.DraftFiles.{fileP, filePairs, fileNested, fileEndless, fileRowless, fileFinalless, fileUnused}
+use Rattle.claims.proofs.Drafts.{P, pairs, nested, endless, rowless, finalless, unused, order, grouping, exchanged}
+use Rattle.claims.specs.DraftFiles.{fileP, filePairs, fileNested, fileEndless, fileRowless, fileFinalless, fileUnused, fileOrder, fileGrouping, fileExchanged}
 
 pub record DraftsHeld : Type 0 where
   pub P-held : verdict fileP ≡ holds P
@@ -12,9 +12,12 @@ pub record DraftsHeld : Type 0 where
   pub rowless-held : verdict fileRowless ≡ holds rowless
   pub finalless-held : verdict fileFinalless ≡ holds finalless
   pub unused-held : verdict fileUnused ≡ holds unused
+  pub order-held : verdict fileOrder ≡ holds order
+  pub grouping-held : verdict fileGrouping ≡ holds grouping
+  pub exchanged-held : verdict fileExchanged ≡ holds exchanged
 
 pub drafts-held : DraftsHeld
-unfolding verdict verdictFrom recordFound values headValues symbolValues rowValues allBelow kindAllowed lengthAllowed numberAt fileP filePairs fileNested fileEndless fileRowless fileFinalless fileUnused
+unfolding verdict verdictFrom recordFound values headValues symbolValues rowValues allBelow kindAllowed lengthAllowed numberAt fileP filePairs fileNested fileEndless fileRowless fileFinalless fileUnused fileOrder fileGrouping fileExchanged
 drafts-held =
     record {
       P-held = refl;
@@ -24,4 +27,7 @@ drafts-held =
       rowless-held = refl;
       finalless-held = refl;
       unused-held = refl;
+      order-held = refl;
+      grouping-held = refl;
+      exchanged-held = refl;
     }

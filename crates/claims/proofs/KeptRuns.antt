@@ -11,17 +11,26 @@ use lib.Dec.{eqb}
 use borrow.Author.Tests.{eqb-true, eq-eqb}
 use Rattle.sets.specs.Members.{has}
 use Rattle.sets.proofs.Bits.{has-or, has-pow, has-zero}
-use Rattle.automaton.specs.Held.{Rule, Held, All, ValidRule, Valid}
+use Rattle.automaton.specs.Held.{Rule, Held, ValidRule, Valid}
+use Rattle.ground.specs.Lists.{All}
 use Rattle.automaton.specs.Checks.{Verdict, verdict, holds, fault}
+use Rattle.automaton.specs.declared.Refusal.{Refusal}
+use Rattle.automaton.specs.Refusals.{noRefusal, faultRefusal}
 use Rattle.automaton.proofs.Pair.{verdict-valid}
+use Rattle.automaton.proofs.Faults.{fault-number}
+use Rattle.meaning.specs.Trees.{Tree}
+use Rattle.trees.specs.declared.ReachedStates.{ReachedStates}
+use Rattle.trees.specs.Words.{IsTree, NoTree}
+use Rattle.trees.proofs.Answers.{decide-tree}
 use Rattle.trees.specs.declared.ProductiveStates.{ProductiveStates}
 use Rattle.trees.specs.Runs.{Productive, ProductiveSet}
-use Rattle.trees.specs.Promises.{noStates, ProductivePromise}
+use Rattle.trees.specs.Promises.{noRun, RunPromise, noStates, ProductivePromise}
 use Rattle.trees.proofs.Producing.{Closed, productive-in, productive-closed, grows}
-use Rattle.trees.proofs.Promised.{productive-fault, productive-held}
-use Rattle.trees.proofs.Lists.{all-map}
-use Rattle.trees.proofs.Lists.{of-all}
+use Rattle.trees.proofs.Promised.{runAnswer, answer-promised, productive-fault, productive-held}
+use Rattle.ground.proofs.Lists.{all-map, of-all}
+use Rattle.claims.specs.Types.{RefusalFits, ReachedFits, ProductiveFits}
 use Rattle.claims.specs.Kept.{Kept}
+use Rattle.claims.proofs.TypedValues.{small-set, reaches-small}
 
 -- a row that adds something to a set, or none does
 abbrev Adds : ℕ → Rule → Type 0
@@ -86,27 +95,54 @@ module _ (held : Held) (v : Valid held) where
             subst (Productive (held .rules)) (sym (eqb-true q (rule .target) new)) (productive-closed (held .rules) rule m (all-map (rule .sources) sound (adds .0)))
 
   -- what is found so far is productive; each turn makes the set a larger number
-  climbed : (turns have : ℕ) → have < 2 ^ 16 → 2 ^ 16 ≤ have + turns → ((q : ℕ) → has have q ≡ true → Productive (held .rules) q) → (set : ℕ) × ProductiveSet (held .rules) set
+  climbed : (turns have : ℕ) → have < 2 ^ 16 → 2 ^ 16 ≤ have + turns → ((q : ℕ) → has have q ≡ true → Productive (held .rules) q) → (found : ℕ) × ProductiveSet (held .rules) found
   climbed zero have small turns sound = absurd (omega arith)
   climbed (suc turns) have small h sound = go (some-adds have (held .rules)) (climbed turns)
     where
       go : ((rule : Rule) × List·Memᴰ rule (held .rules) × Adds have rule) ⊎ Closed (held .rules) (λ q. has have q ≡ true)
-          → ((n : ℕ) → n < 2 ^ 16 → 2 ^ 16 ≤ n + turns → ((q : ℕ) → has n q ≡ true → Productive (held .rules) q) → (set : ℕ) × ProductiveSet (held .rules) set)
-          → (set : ℕ) × ProductiveSet (held .rules) set
+          → ((n : ℕ) → n < 2 ^ 16 → 2 ^ 16 ≤ n + turns → ((q : ℕ) → has n q ≡ true → Productive (held .rules) q) → (found : ℕ) × ProductiveSet (held .rules) found)
+          → (found : ℕ) × ProductiveSet (held .rules) found
       go (inr closed) again = (have, λ q. (sound q, productive-in (held .rules) (λ p. has have p ≡ true) closed q))
       go (inl x) again =
           let more = next-more have small sound (x .0) (x .1) (x .2) in
           again (next have small sound (x .0) (x .1) (x .2)) (next-small have small sound (x .0) (x .1) (x .2)) (omega arith) (next-sound have small sound (x .0) (x .1) (x .2))
 
-  productive-set : (set : ℕ) × ProductiveSet (held .rules) set
+  productive-set : (found : ℕ) × ProductiveSet (held .rules) found
   productive-set = climbed (2 ^ 16) 0 (omega arith) (omega arith) (λ q e. absurd (false≢true (sym (has-zero q) ∙ e)))
 
-pub productive-kept : (file : List ℕ) → Kept {A = ProductiveStates} (λ r. ProductivePromise file r)
+pub productive-kept : (file : List ℕ) → Kept ProductiveFits (ProductivePromise file)
+unfolding noStates
 productive-kept file = go (verdict file) refl
   where
-    go : (w : Verdict) → verdict file ≡ w → Kept {A = ProductiveStates} (λ r. ProductivePromise file r)
-    go (fault number offset) e = (noStates number, productive-fault file number offset e)
+    go : (w : Verdict) → verdict file ≡ w → Kept ProductiveFits (ProductivePromise file)
+    go (fault number offset) e = (noStates (faultRefusal number offset), productive-fault file number offset e, omega (arith, fault-number file number offset e))
     go (holds held) e =
-        let c = productive-set held (verdict-valid file held e) in
-        let r : ProductiveStates = record { refusal = record { number = 0 }; states = record { 0 = c .0 } } in
-        (r, productive-held file held r e (record { done = refl; productive = c .1 }))
+        let v = verdict-valid file held e in
+        let c = productive-set held v in
+        let r : ProductiveStates = record { refusal = noRefusal; states = record { 0 = c .0 } } in
+        (r, productive-held file held r e (record { done = refl; productive = c .1 }), (omega arith, small-set (c .0) (λ q h. let t = c .1 q .0 h in reaches-small held v (t .0) q (t .1))))
+
+-- ---- the run of a tree
+
+pub run-kept : (file words : List ℕ) → Kept ReachedFits (RunPromise file words)
+unfolding noRun
+run-kept file words = (r, answer-promised file words, go (verdict file) refl)
+  where
+    r : ReachedStates
+    r = runAnswer file words
+
+    p : RunPromise file words r
+    p = answer-promised file words
+
+    none : {given : Refusal} → RefusalFits given → r ≡ noRun given → ReachedFits r
+    none f e = subst ReachedFits (sym e) (f, omega arith)
+
+    tree : (held : Held) → verdict file ≡ holds held → ((t : Tree) × IsTree held words t) ⊎ NoTree held words → ReachedFits r
+    tree held e (inr n) = none (omega arith) (p .no-tree held e n)
+    tree held e (inl x) =
+        let run = p .one-tree held (x .0) e (x .1) in
+        (omega (arith, ap (λ (a : Refusal). a .number) (run .done)), small-set (r .states .0) (λ q h. reaches-small held (verdict-valid file held e) (x .0) q (run .reached q .0 h)))
+
+    go : (v : Verdict) → verdict file ≡ v → ReachedFits r
+    go (fault number offset) e = none (omega (arith, fault-number file number offset e)) (p .faulty number offset e)
+    go (holds held) e = tree held e (decide-tree held words)

@@ -1,11 +1,14 @@
 pub mod Faults
 pub mod Refusals
+pub mod TypedValues
+pub mod TypedTables
 pub mod Meanings
 pub mod Slips
 pub mod Done
 pub mod Conversions
 pub mod Uniqueness
 pub mod KeptTables
+pub mod TypedConversions
 pub mod KeptRuns
 pub mod KeptConversions
 pub mod Printings

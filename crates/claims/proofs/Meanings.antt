@@ -1,5 +1,5 @@
 -- What the entries answer means what it should.
-use Prim.Native.Nat.{ℕ, zero, suc, _≤_, _<_}
+use Prim.Native.Nat.{ℕ, _≤_, _<_}
 use native.Mathlib.Omega.{arith}
 use mathlib.Core.Path.{_≡_, refl, _∙_, ap, subst}
 use mathlib.Core.Bool.{true}
@@ -10,25 +10,32 @@ use lib.Seq.{length-take-le}
 use Rattle.sets.specs.Members.{has}
 use Rattle.automaton.specs.declared.Automaton.{Automaton}
 use Rattle.automaton.specs.declared.Reading.{Reading}
-use Rattle.automaton.specs.declared.Writing.{Writing}
-use Rattle.automaton.specs.Held.{Held, All}
+use Rattle.writer.specs.declared.Writing.{Writing}
+use Rattle.automaton.specs.Held.{Held}
+use Rattle.ground.specs.Lists.{All}
 use Rattle.automaton.specs.Checks.{verdict, holds}
-use Rattle.automaton.specs.Answers.{placed, readAnswer, heldBy, writing, Written}
-use Rattle.automaton.proofs.Laws.{reads-exactly, held-placed, written-file, written-reads, reads-written}
+use Rattle.automaton.specs.Refusals.{noRefusal}
+use Rattle.automaton.specs.Answers.{placed, readAnswer, heldBy}
+use Rattle.automaton.proofs.Handing.{read-held}
+use Rattle.writer.specs.Answers.{writing, Written}
+use Rattle.automaton.proofs.Values.{reads-exactly, held-placed}
+use Rattle.writer.proofs.Laws.{written-file, written-reads, reads-written}
 use Rattle.trees.specs.declared.ReachedStates.{ReachedStates}
-use Rattle.trees.specs.Trees.{Tree, Forest, node, []ᶠ, _∷ᶠ_}
+use Rattle.meaning.specs.Trees.{Tree, Forest, []ᶠ, _∷ᶠ_}
 use Rattle.trees.specs.Words.{IsTree}
 use Rattle.trees.specs.Promises.{RunPromise}
 use Rattle.trees.proofs.Spelling.{at-most-one}
-use Rattle.trees.proofs.Promised.{read-held}
-use Rattle.expressions.specs.Expressions.{Expr, holeᴱ, symbolᴱ, altᴱ, catᴱ, iterᴱ, Denotes, DenotesEach}
-use Rattle.expressions.specs.Nodes.{Shape, Table, nodeAt, places, symbolOf, childCount, children}
+use Rattle.meaning.specs.Expressions.{Expr, holeᴱ, symbolᴱ, altᴱ, catᴱ, iterᴱ, Denotes, DenotesEach}
+use Rattle.expressions.specs.declared.Shape.{Shape}
+use Rattle.expressions.specs.Nodes.{Table, nodeAt, places, symbolOf, childCount, children}
 use Rattle.expressions.specs.Words.{tableOf}
 use Rattle.expressions.specs.Unfolding.{exprsOf, builtOf, built, exprAt}
 use Rattle.expressions.specs.Soundness.{Labelled, SoundNodes, Sound}
-use Rattle.trees.proofs.Lists.{all-map}
+use Rattle.ground.proofs.Lists.{all-map}
 use Rattle.expressions.proofs.Words.{length-table}
 use Rattle.expressions.proofs.Unfolding.{expr-at, expr-take, built-same}
+use Rattle.claims.specs.Types.{Bytes}
+use Rattle.claims.proofs.TypedTables.{kind-small}
 use Rattle.claims.specs.Meanings.{NodeDenotes, OneFromEach, NodeMeans, MeansWhatItShould}
 
 -- ---- nodes, kind by kind
@@ -55,15 +62,6 @@ module _ (table : Table) (i : ℕ) (shape : Shape) (is : exprAt table i ≡ buil
   of-each (c ∷ cs) []ᶠ x = absurd x
   of-each (c ∷ cs) (t ∷ᶠ ts) x = (t, ts, refl, x .0, of-each cs ts (x .1))
 
-  few-kinds : (kind : ℕ) → Labelled kind (shape .label) → kind ≤ 5
-  few-kinds zero l = omega arith
-  few-kinds (suc zero) l = omega arith
-  few-kinds (suc (suc zero)) l = omega arith
-  few-kinds (suc (suc (suc zero))) l = omega arith
-  few-kinds (suc (suc (suc (suc zero)))) l = omega arith
-  few-kinds (suc (suc (suc (suc (suc zero))))) l = omega arith
-  few-kinds (suc (suc (suc (suc (suc (suc k)))))) l = absurd l
-
   same : {X : Tree → Type 0} (e : Expr) → exprAt table i ≡ e → ((t : Tree) → Denotes e t ↔ X t) → (t : Tree) → NodeDenotes table i t ↔ X t
   same e d h t = rw d (h t)
 
@@ -71,7 +69,7 @@ module _ (table : Table) (i : ℕ) (shape : Shape) (is : exprAt table i ≡ buil
   unfolding builtOf childCount
   node-means l =
       record {
-        kinds = few-kinds (shape .kind) l;
+        kinds = kind-small (shape .kind) (shape .label) l;
         empty = λ e t x. subst (λ (a : Expr). Denotes a t) (of-kind 0 e) x;
         hole-alone = λ e. same (holeᴱ (shape .label)) (of-kind 1 e) (λ t. (λ x. x, λ x. x));
         symbol = λ e. same (symbolᴱ (symbolOf (shape .label)) (exprsOf (map (exprAt table) (children shape)))) (of-symbol e)
@@ -88,12 +86,12 @@ sound-means words count answer s i h =
     let table = tableOf words count in
     let l : length table ≡ count = length-table words count in
     let inside : i < length table = omega arith in
-    let node = s .kept i inside in
+    let kept = s .kept i inside in
     let front : length (take i table) ≡ i = length-take-le i table (omega arith) in
     let shape = nodeAt table i .shape in
-    let earlier : All (λ c. c < i) (children shape) = rw front at (node .fits .earlier) in
+    let earlier : All (λ c. c < i) (children shape) = rw front at (kept .fits .earlier) in
     let is = expr-at table i inside ∙ built-same (exprAt (take i table)) (exprAt table) shape (all-map (children shape) (λ c k. expr-take table i c (omega arith) k) earlier) in
-    node-means table i shape is (node .fits .labelled)
+    node-means table i shape is (kept .fits .labelled)
 
 -- ---- runs
 
@@ -114,9 +112,9 @@ value-and-back value before after w p z r e =
     let same : r .automaton ≡ placed (heldBy value) = ap (λ (a : Reading). a .automaton) c in
     (ap (λ (a : Reading). a .refusal .number) c, same, ap heldBy same ∙ held-placed (heldBy value) (written-file value before after w p z .0))
 
-file-and-back : (file : List ℕ) → All (λ b. b < 256) file → (r : Reading) → r ≡ readAnswer file → r .refusal .number ≡ 0
+file-and-back : (file : List ℕ) → Bytes file → (r : Reading) → r ≡ readAnswer file → r .refusal .number ≡ 0
     → (before after : List ℕ) (w : Writing) → length file ≤ length before → Written (r .automaton) before after w
-    → (w ≡ writing 0 (length file)) × (after ≡ file ++ drop (length file) before)
+    → (w ≡ writing noRefusal (length file)) × (after ≡ file ++ drop (length file) before)
 file-and-back file b r e z before after w h p =
     let c = read-held file r e z in
     reads-written file before after (c .held) w b (c .in-file) (subst (λ (a : Reading). Written (a .automaton) before after w) e p) h

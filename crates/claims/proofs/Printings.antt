@@ -5,21 +5,26 @@ use native.Mathlib.Decide.{decLt}
 use mathlib.Core.Path.{_≡_, refl, sym, _∙_, ap, ap₂}
 use mathlib.Core.List.{List, [], _∷_, _++_}
 use lib.ListN.{length, take, drop}
+use Rattle.ground.specs.Writing.{allZero}
 use Rattle.automaton.specs.Checks.{Verdict, verdict, holds, fault}
+use Rattle.automaton.proofs.Pair.{verdict-valid}
 use Rattle.automaton.proofs.Cap.{verdict-cap}
-use Rattle.expressions.specs.Listing.{decimalIn, decimal, spaced, line}
-use Rattle.elimination.specs.Stages.{converted}
-use Rattle.elimination.specs.Answers.{wholeNodes, allZero}
+use Rattle.ground.specs.Decimal.{decimalIn, decimal}
+use Rattle.listing.specs.Listing.{spaced, line}
+use Rattle.theory.specs.Stages.{converted}
+use Rattle.elimination.specs.Answers.{wholeNodes}
 use Rattle.front.specs.declared.Printing.{Printing}
-use Rattle.front.specs.Text.{refusedLine, printedText, mostRead}
+use Rattle.front.specs.Text.{refusedLine, convertedListing, textOf, printedText, mostRead}
 use Rattle.front.specs.Answers.{nodesMade, TooShort, nodesLeft, printing, Prints}
 use Rattle.front.proofs.Outcomes.{text-holds, made-holds, text-fault, made-fault, text-fault-length, short-nodes, short-bytes, room-both}
 use Rattle.front.proofs.Room.{never-six, text-exact}
 use Rattle.front.proofs.Cap.{text-cap}
-use Rattle.claims.specs.Kept.{KeptAll}
+use Rattle.claims.specs.Types.{Byte, Long, Bytes, Words, PrintingFits}
+use Rattle.claims.specs.Kept.{Stays}
 use Rattle.claims.specs.Printings.{PrintsFaithfully}
-use Rattle.claims.proofs.KeptTables.{over-front}
-use Rattle.claims.proofs.KeptConversions.{written-length, zero-length}
+use Rattle.claims.proofs.TypedTables.{decimal-bytes, line-bytes, listing-bytes}
+use Rattle.claims.proofs.TypedConversions.{zero-stays, whole-stays}
+use Rattle.claims.proofs.KeptTables.{stays-front, stays-same}
 
 -- ---- it is too short, or it is not
 
@@ -48,32 +53,44 @@ module _ (file nodes out : List ℕ) (n : TooShort file nodes out → ⊥) where
       go (yes h) = absurd (n (short-bytes file nodes out h))
       go (no h) = omega arith
 
-  left-length : length (nodesLeft (verdict file) nodes) ≡ length nodes
+  left-stays : Stays Words nodes (nodesLeft (verdict file) nodes)
   unfolding nodesLeft
-  left-length = go (verdict file) refl
+  left-stays = go (verdict file) refl
     where
-      go : (v : Verdict) → verdict file ≡ v → length (nodesLeft (verdict file) nodes) ≡ length nodes
-      go (holds held) e = ap (λ (v : Verdict). length (nodesLeft v nodes)) e ∙ written-length nodes (converted held .table) (omega (arith, made-holds file held e, nodes-fit))
-      go (fault number offset) e = ap (λ (v : Verdict). length (nodesLeft v nodes)) e
+      go : (v : Verdict) → verdict file ≡ v → Stays Words nodes (nodesLeft (verdict file) nodes)
+      go (holds held) e = rw e (whole-stays held (verdict-valid file held e) nodes (omega (arith, made-holds file held e, nodes-fit)))
+      go (fault number offset) e = rw e (stays-same Words nodes)
 
-pub printed-kept : (file nodes out : List ℕ) → KeptAll {A = Printing} nodes out (λ after bytes r. Prints file nodes after out bytes r)
-printed-kept file nodes out = go (too-short file nodes out)
+-- the text is bytes
+text-bytes : (file : List ℕ) → Bytes (printedText file)
+unfolding printedText textOf convertedListing refusedLine
+text-bytes file = go (verdict file)
+  where
+    go : (v : Verdict) → Bytes (textOf v)
+    go (holds held) = listing-bytes (converted held .table) (converted held .node)
+    go (fault number offset) = line-bytes _ (decimal number ∷ []) (omega arith) (decimal-bytes number, tt)
+
+pub printed-kept : (file nodes out : List ℕ) → Long (length out)
+    → (after bytes : List ℕ) × (r : Printing) × Prints file nodes after out bytes r × Stays Words nodes after × Stays Bytes out bytes × PrintingFits r
+printed-kept file nodes out long = go (too-short file nodes out)
   where
     text : List ℕ
     text = printedText file
 
-    go : Dec (TooShort file nodes out) → KeptAll {A = Printing} nodes out (λ after bytes r. Prints file nodes after out bytes r)
-    go (yes t) = (allZero nodes, out, printing 6 0, record { short = λ _. (refl, (refl, refl)); done = λ n. absurd (n t) }, zero-length nodes, refl)
-    go (no n) = (
-      nodesLeft (verdict file) nodes,
-      text ++ drop (length text) out,
-      printing 0 (length text),
-      record { short = λ t. absurd (n t); done = λ _. (refl, (refl, refl)) },
-      left-length file nodes out n,
-      over-front text out (length text) refl (text-fits file nodes out n),
-    )
+    go : Dec (TooShort file nodes out) → (after bytes : List ℕ) × (r : Printing) × Prints file nodes after out bytes r × Stays Words nodes after × Stays Bytes out bytes × PrintingFits r
+    go (yes t) = (allZero nodes, out, printing 6 0, record { short = λ _. (refl, (refl, refl)); done = λ n. absurd (n t) }, zero-stays nodes, stays-same Bytes out, omega arith)
+    go (no n) =
+        let fits = text-fits file nodes out n in (
+          nodesLeft (verdict file) nodes,
+          text ++ drop (length text) out,
+          printing 0 (length text),
+          record { short = λ t. absurd (n t); done = λ _. (refl, (refl, refl)) },
+          left-stays file nodes out n,
+          stays-front Byte text out (length text) refl fits (text-bytes file),
+          (omega arith, omega arith),
+        )
 
--- ---- "refused N"
+-- ---- the line of a refusal
 
 refused : (file nodes after out bytes : List ℕ) (r : Printing) (number offset : ℕ) → verdict file ≡ fault number offset → 10 ≤ length out
     → Prints file nodes after out bytes r → (r ≡ printing 0 10) × ((after ≡ nodes) × (bytes ≡ refusedLine number ++ drop 10 out))

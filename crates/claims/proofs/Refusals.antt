@@ -10,32 +10,37 @@ use lib.ListN.{length, replicate}
 use Rattle.automaton.specs.declared.Automaton.{Automaton}
 use Rattle.automaton.specs.declared.Refusal.{Refusal}
 use Rattle.automaton.specs.declared.Reading.{Reading}
-use Rattle.automaton.specs.declared.Writing.{Writing}
-use Rattle.automaton.specs.Held.{Held, All, Valid}
+use Rattle.writer.specs.declared.Writing.{Writing}
+use Rattle.automaton.specs.Held.{Held, Valid}
+use Rattle.ground.specs.Lists.{All}
 use Rattle.automaton.specs.File.{fileOf}
 use Rattle.automaton.specs.Checks.{Verdict, verdict, holds, fault}
-use Rattle.automaton.specs.Answers.{noAutomaton, readingOf, readAnswer, heldBy, writing, Written}
-use Rattle.automaton.proofs.Laws.{dec-valid}
+use Rattle.automaton.specs.Answers.{noAutomaton, readingOf, readAnswer, heldBy}
+use Rattle.writer.specs.Answers.{writing, Written}
+use Rattle.automaton.proofs.Values.{dec-valid}
 use Rattle.automaton.proofs.Pair.{verdict-valid}
 use Rattle.automaton.proofs.Files.{file-verdict}
 use Rattle.trees.specs.declared.ReachedStates.{ReachedStates}
 use Rattle.trees.specs.declared.ProductiveStates.{ProductiveStates}
-use Rattle.trees.specs.Trees.{Tree}
+use Rattle.meaning.specs.Trees.{Tree}
 use Rattle.trees.specs.Words.{IsTree, NoTree}
 use Rattle.trees.specs.Promises.{noRun, RunPromise, noStates, ProductivePromise}
 use Rattle.trees.proofs.Answers.{decide-tree}
 use Rattle.expressions.specs.declared.Measured.{Measured}
-use Rattle.expressions.specs.declared.Listed.{Listed}
-use Rattle.expressions.specs.Nodes.{Shape, shapeOf}
+use Rattle.listing.specs.declared.Listed.{Listed}
+use Rattle.expressions.specs.declared.Shape.{Shape}
 use Rattle.expressions.specs.Soundness.{Fits, Sound}
 use Rattle.expressions.specs.Making.{Room, Makes}
-use Rattle.expressions.specs.Answers.{Measures, Lists, listingOf}
+use Rattle.expressions.specs.Answers.{Measures}
+use Rattle.listing.specs.Answers.{Lists, listingOf}
 use Rattle.expressions.proofs.Decidable.{dec-fits, dec-room, dec-sound}
 use Rattle.elimination.specs.declared.Partly.{Partly}
 use Rattle.elimination.specs.declared.Wholly.{Wholly}
-use Rattle.elimination.specs.Stages.{stageAfter, converted}
-use Rattle.elimination.specs.Answers.{wholeNodes, allZero, unusedPlace, refusedPartly, partlyDone, PartlyAnswered, refusedWhole, whollyDone, WhollyAnswered}
-use Rattle.trees.proofs.Lists.{of-all}
+use Rattle.theory.specs.Stages.{stageAfter, converted}
+use Rattle.elimination.specs.Answers.{wholeNodes, unusedPlace, refusedPartly, partlyDone, PartlyAnswered, refusedWhole, whollyDone, WhollyAnswered}
+use Rattle.ground.specs.Writing.{allZero}
+use Rattle.theory.specs.RowLists.{listPlaces}
+use Rattle.ground.proofs.Lists.{of-all}
 use Rattle.front.specs.declared.Printing.{Printing}
 use Rattle.front.specs.Text.{printedText}
 use Rattle.front.specs.Answers.{nodesMade, TooShort, Prints}
@@ -52,7 +57,7 @@ module _ (numbers : List ℕ) (some : All (λ n. 1 ≤ n) numbers) (Refused : �
       record {
         among = among;
         exactly = λ n h. (λ e. only n h e either, gives n);
-        done = (λ z n x. let h = of-all (λ n. 1 ≤ n) numbers some (among n x) in let e = gives n x in omega arith, λ none. zero none either);
+        done = (λ z n x. let h = of-all (λ n. 1 ≤ n) numbers some (among n x) in let e = gives n x in omega arith, λ none. undue none either);
         left = λ n. kept n either;
       }
     where
@@ -60,9 +65,9 @@ module _ (numbers : List ℕ) (some : All (λ n. 1 ≤ n) numbers) (Refused : �
       only n h e (inl z) = absurd (omega arith)
       only n h e (inr x) = subst Refused e (x .0)
 
-      zero : ((n : ℕ) → Refused n → ⊥) → (number ≡ 0) ⊎ (Refused number × Left) → number ≡ 0
-      zero none (inl z) = z
-      zero none (inr x) = absurd (none number (x .0))
+      undue : ((n : ℕ) → Refused n → ⊥) → (number ≡ 0) ⊎ (Refused number × Left) → number ≡ 0
+      undue none (inl z) = z
+      undue none (inr x) = absurd (none number (x .0))
 
       kept : (number ≡ 0 → ⊥) → (number ≡ 0) ⊎ (Refused number × Left) → Left
       kept n (inl z) = absurd (n z)
@@ -102,7 +107,7 @@ write-refuses value before after r w = refuses (4 ∷ 6 ∷ []) (omega arith) (W
     unfit : ((file : List ℕ) → verdict file ≡ holds (heldBy value) → ⊥) → Valid (heldBy value) → ⊥
     unfit none v = none (fileOf (heldBy value)) (file-verdict (heldBy value) v)
 
-    number : {n l : ℕ} → r ≡ writing n l → r .refusal .number ≡ n
+    number : {given : Refusal} {size : ℕ} → r ≡ writing given size → r .refusal .number ≡ given .number
     number e = ap (λ (a : Writing). a .refusal .number) e
 
     gives : (n : ℕ) → WriteRefused value before n → r .refusal .number ≡ n
@@ -129,10 +134,10 @@ run-refuses file words r p = refuses (7 ∷ fileNumbers) (omega arith) (RunRefus
     among n (run-file x) = List·Memᴰ·tail (in-file file n x)
     among n (no-tree held e none) = List·Memᴰ·head refl
 
-    number : {n : ℕ} → r ≡ noRun n → r .refusal .number ≡ n
+    number : {given : Refusal} → r ≡ noRun given → r .refusal .number ≡ given .number
     number e = ap (λ (a : ReachedStates). a .refusal .number) e
 
-    left : {n : ℕ} → r ≡ noRun n → (r .states .0 ≡ 0) × (r .yes ≡ false)
+    left : {given : Refusal} → r ≡ noRun given → (r .states .0 ≡ 0) × (r .yes ≡ false)
     left e = (ap (λ (a : ReachedStates). a .states .0) e, ap (λ (a : ReachedStates). a .yes) e)
 
     gives : (n : ℕ) → RunRefused file words n → r .refusal .number ≡ n
@@ -141,7 +146,7 @@ run-refuses file words r p = refuses (7 ∷ fileNumbers) (omega arith) (RunRefus
 
     tree : (held : Held) → verdict file ≡ holds held → ((t : Tree) × IsTree held words t) ⊎ NoTree held words
         → (r .refusal .number ≡ 0) ⊎ (RunRefused file words (r .refusal .number) × ((r .states .0 ≡ 0) × (r .yes ≡ false)))
-    tree held e (inl x) = inl (p .one-tree held (x .0) e (x .1) .done)
+    tree held e (inl x) = inl (ap (λ (a : Refusal). a .number) (p .one-tree held (x .0) e (x .1) .done))
     tree held e (inr none) = let c = p .no-tree held e none in inr (rw (number c) (no-tree held e none), left c)
 
     go : (v : Verdict) → verdict file ≡ v → (r .refusal .number ≡ 0) ⊎ (RunRefused file words (r .refusal .number) × ((r .states .0 ≡ 0) × (r .yes ≡ false)))
@@ -156,7 +161,7 @@ productive-refuses file r p = refuses fileNumbers (omega arith) (FileRefused fil
     gives n x = ap (λ (a : ProductiveStates). a .refusal .number) (p .faulty n (x .0) (x .1))
 
     go : (v : Verdict) → verdict file ≡ v → (r .refusal .number ≡ 0) ⊎ (FileRefused file (r .refusal .number) × (r .states .0 ≡ 0))
-    go (holds held) e = inl (p .found held e .done)
+    go (holds held) e = inl (ap (λ (a : Refusal). a .number) (p .found held e .done))
     go (fault n offset) e = inr (rw (gives n (offset, e)) (offset, e), ap (λ (a : ProductiveStates). a .states .0) (p .faulty n offset e))
 
 -- ---- tables
@@ -219,7 +224,6 @@ words-same : (number : ℕ) (before after : List ℕ) → (number ≡ 6 → ⊥)
 words-same number before after n e = record { zeroed = λ z. absurd (n z); unchanged = λ k. e }
 
 words-zero : (number : ℕ) (before after : List ℕ) → number ≡ 6 → after ≡ allZero before → WordsLeft number before after
-unfolding allZero
 words-zero number before after z e = record { zeroed = λ k. e; unchanged = λ n. absurd (n z) }
 
 -- 6 is no file's number
@@ -228,19 +232,19 @@ not-six file number x e = let h = of-all (λ n. n ≤ 5) fileNumbers (omega arit
 
 partly-refuses : (file : List ℕ) (k : ℕ) (before after : List ℕ) (r : Partly) → PartlyAnswered file k before after r
     → Refuses (9 ∷ 6 ∷ fileNumbers) (PartlyRefused file k before) (r .refusal .number)
-    ((r .nodes ≡ 0) × (r .rows ≡ 0) × (r .list ≡ replicate 80 unusedPlace) × WordsLeft (r .refusal .number) before after)
+    ((r .nodes ≡ 0) × (r .rows ≡ 0) × (r .list ≡ replicate listPlaces unusedPlace) × WordsLeft (r .refusal .number) before after)
 unfolding refusedPartly partlyDone
 partly-refuses file k before after r p = refuses (9 ∷ 6 ∷ fileNumbers) (omega arith) (PartlyRefused file k before) _ _ among gives (go (verdict file) refl)
   where
     Left : Type 0
-    Left = (r .nodes ≡ 0) × (r .rows ≡ 0) × (r .list ≡ replicate 80 unusedPlace) × WordsLeft (r .refusal .number) before after
+    Left = (r .nodes ≡ 0) × (r .rows ≡ 0) × (r .list ≡ replicate listPlaces unusedPlace) × WordsLeft (r .refusal .number) before after
 
     among : (n : ℕ) → PartlyRefused file k before n → List·Memᴰ n (9 ∷ 6 ∷ fileNumbers)
     among n (partly-file x) = List·Memᴰ·tail (List·Memᴰ·tail (in-file file n x))
     among n (too-far held e l) = List·Memᴰ·head refl
     among n (partly-short held e h l) = List·Memᴰ·tail (List·Memᴰ·head refl)
 
-    number : {n : ℕ} → r ≡ refusedPartly n → r .refusal .number ≡ n
+    number : {given : Refusal} → r ≡ refusedPartly given → r .refusal .number ≡ given .number
     number e = ap (λ (a : Partly). a .refusal .number) e
 
     gives : (n : ℕ) → PartlyRefused file k before n → r .refusal .number ≡ n
@@ -248,7 +252,7 @@ partly-refuses file k before after r p = refuses (9 ∷ 6 ∷ fileNumbers) (omeg
     gives n (too-far held e l) = number (p .too-far held e l .0)
     gives n (partly-short held e h l) = number (p .short held e h l .0)
 
-    left : {n : ℕ} → r ≡ refusedPartly n → WordsLeft (r .refusal .number) before after → Left
+    left : {given : Refusal} → r ≡ refusedPartly given → WordsLeft (r .refusal .number) before after → Left
     left e w = (ap (λ (a : Partly). a .nodes) e, ap (λ (a : Partly). a .rows) e, ap (λ (a : Partly). a .list) e, w)
 
     room : (held : Held) → verdict file ≡ holds held → k ≤ held .states → Dec (wholeNodes before < length (stageAfter k held .table)) → (r .refusal .number ≡ 0) ⊎ (PartlyRefused file k before (r .refusal .number) × Left)
@@ -279,14 +283,14 @@ wholly-refuses file before after r p = refuses (6 ∷ fileNumbers) (omega arith)
     among n (wholly-file x) = List·Memᴰ·tail (in-file file n x)
     among n (wholly-short held e l) = List·Memᴰ·head refl
 
-    number : {n : ℕ} → r ≡ refusedWhole n → r .refusal .number ≡ n
+    number : {given : Refusal} → r ≡ refusedWhole given → r .refusal .number ≡ given .number
     number e = ap (λ (a : Wholly). a .refusal .number) e
 
     gives : (n : ℕ) → WhollyRefused file before n → r .refusal .number ≡ n
     gives n (wholly-file x) = number (p .faulty n (x .0) (x .1) .0)
     gives n (wholly-short held e l) = number (p .short held e l .0)
 
-    left : {n : ℕ} → r ≡ refusedWhole n → WordsLeft (r .refusal .number) before after → Left
+    left : {given : Refusal} → r ≡ refusedWhole given → WordsLeft (r .refusal .number) before after → Left
     left e w = (ap (λ (a : Wholly). a .nodes) e, ap (λ (a : Wholly). a .answer) e, w)
 
     room : (held : Held) → verdict file ≡ holds held → Dec (wholeNodes before < length (converted held .table)) → (r .refusal .number ≡ 0) ⊎ (WhollyRefused file before (r .refusal .number) × Left)
@@ -303,7 +307,6 @@ wholly-refuses file before after r p = refuses (6 ∷ fileNumbers) (omega arith)
 
 print-refuses : (file nodes after out bytes : List ℕ) (r : Printing) → Prints file nodes after out bytes r
     → Refuses (6 ∷ []) (PrintRefused file nodes out) (r .refusal .number) ((r .length ≡ 0) × (after ≡ replicate (length nodes) 0) × (bytes ≡ out))
-unfolding allZero
 print-refuses file nodes after out bytes r p = refuses (6 ∷ []) (omega arith) (PrintRefused file nodes out) _ _ among gives (go (verdict file) refl)
   where
     Left : Type 0
@@ -343,7 +346,7 @@ refuses-exactly =
       run = run-refuses;
       productive = productive-refuses;
       is-sound = λ words count answer r d. (d .only, d .always);
-      make = λ before count kind label first second third. make-refuses before count (shapeOf kind label first second third);
+      make = make-refuses;
       measure = measure-refuses;
       list = list-refuses;
       convert-partly = partly-refuses;

@@ -2,10 +2,10 @@
 use Prim.Native.Nat.{ℕ}
 use mathlib.Core.Path.{_≡_}
 use mathlib.Core.Logic.{_↔_}
-use Rattle.trees.specs.Trees.{Tree, Forest, hole, node, []ᶠ, _∷ᶠ_}
-use Rattle.expressions.specs.Expressions.{Expr, emptyᴱ, catᴱ, Denotes}
-use Rattle.expressions.proofs.Fillings.{Within, WithinAll}
-use Rattle.expressions.proofs.Slips.{earlier-levels-kept, each-hole-apart, closed-with-empty, not-replaced-again, letters-apart, not-associative}
+use Rattle.meaning.specs.Trees.{Tree, Forest, hole, node, []ᶠ, _∷ᶠ_}
+use Rattle.meaning.specs.Expressions.{Expr, emptyᴱ, catᴱ, Denotes}
+use Rattle.meaning.proofs.Fillings.{Within, WithinAll}
+use Rattle.meaning.proofs.Slips.{earlier-levels-kept, each-hole-apart, closed-with-empty, not-replaced-again, letters-apart, not-associative}
 use Rattle.claims.specs.Slips.{Lacks, LackEach, NoSlip}
 
 mutual

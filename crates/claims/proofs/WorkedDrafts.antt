@@ -1,41 +1,43 @@
--- The worked drafts are as the paper gives them.
+-- The worked drafts come out as section 10 says.
 use Prim.Native.Nat.{ℕ, _*_, _≤_}
 use native.Mathlib.Omega.{arith}
 use mathlib.Core.Path.{_≡_, refl, _∙_, ap, ap₂}
 use mathlib.Core.Logic.{_⊎_, inl, inr, _↔_}
-use mathlib.Core.List.{List, _∷_, _++_, append-nil}
+use mathlib.Core.List.{List, [], _∷_, _++_, append-nil}
 use lib.ListN.{length, take, drop, replicate, drop-of-length-le}
 use Rattle.automaton.specs.Held.{Held}
 use Rattle.automaton.specs.Checks.{holds, verdict}
-use Rattle.trees.specs.Trees.{Tree}
+use Rattle.meaning.specs.Trees.{Tree}
 use Rattle.expressions.specs.declared.Measured.{Measured}
-use Rattle.expressions.specs.declared.Listed.{Listed}
+use Rattle.listing.specs.declared.Listed.{Listed}
 use Rattle.expressions.specs.Nodes.{Table}
-use Rattle.expressions.specs.Words.{nodeWidth, tableOf}
+use Rattle.expressions.specs.Words.{nodeWidth, tableOf, wordsOf}
 use Rattle.expressions.specs.Unfolding.{exprAt}
 use Rattle.expressions.specs.Soundness.{Sound}
 use Rattle.expressions.specs.Sizes.{heldSize, sizesOf}
-use Rattle.expressions.specs.Answers.{Measures, measured, Lists, listed, listingOf}
+use Rattle.expressions.specs.Answers.{Measures, measured}
+use Rattle.listing.specs.Answers.{Lists, listed, listingOf}
 use Rattle.expressions.proofs.Words.{table-words}
 use Rattle.elimination.specs.declared.Partly.{Partly}
 use Rattle.elimination.specs.declared.Wholly.{Wholly}
-use Rattle.elimination.specs.Stages.{converted, boundOf}
-use Rattle.elimination.specs.Answers.{wholeNodes, writtenTo, allZero, refusedPartly, PartlyAnswered, refusedWhole, whollyDone, WhollyAnswered}
+use Rattle.theory.specs.Stages.{converted, boundOf}
+use Rattle.elimination.specs.Answers.{wholeNodes, writtenTo, refusedPartly, PartlyAnswered, refusedWhole, whollyDone, WhollyAnswered}
+use Rattle.theory.specs.RowLists.{listPlaces}
 use Rattle.elimination.proofs.Outcomes.{wholly-sound}
 use Rattle.front.specs.declared.Printing.{Printing}
 use Rattle.front.specs.Text.{printedText}
 use Rattle.front.specs.Answers.{printing, Prints}
 use Rattle.front.proofs.Outcomes.{text-holds, made-holds, room-both}
-use Rattle.claims.proofs.Drafts.{P, pairs, nested, endless, rowless, finalless, unused, numbers, AnswerDenotes, Leaf, pairs-denotes, nested-denotes, endless-denotes, unused-denotes}
-use Rattle.claims.specs.DraftFiles.{fileP, filePairs, fileNested, fileEndless, fileRowless, fileFinalless, fileUnused}
-use Rattle.claims.specs.WorkedDrafts.{whole, part, place, Gives, DenotesTree, DenotesJust, leaf, over, pair, wordsP, sizesP, listingP, WorkedDrafts}
+use Rattle.claims.proofs.Drafts.{P, pairs, nested, endless, rowless, finalless, unused, order, grouping, numbers, AnswerDenotes, Leaf, pairs-denotes, nested-denotes, endless-denotes, rowless-denotes, finalless-denotes, unused-denotes, order-denotes, grouping-denotes}
+use Rattle.claims.specs.DraftFiles.{fileP, filePairs, fileNested, fileEndless, fileRowless, fileFinalless, fileUnused, fileOrder, fileGrouping}
+use Rattle.claims.specs.WorkedDrafts.{whole, part, place, Gives, DenotesTree, DenotesJust, leaf, over, pair, wordsP, sizesP, listingP, wordsOrder, wordsGrouping, Chain, WorkedDrafts}
 use Rattle.claims.proofs.Done.{whole-room}
 use Rattle.claims.proofs.DraftsHeld.{drafts-held}
 use Rattle.claims.proofs.DraftRuns.{P-100, P-11000, P-10100, P-0, P-10, P-00, P-none}
 use Rattle.claims.proofs.DraftTables.{P-size, P-sizes, P-listing, listing-length, P-text, P-one-done, P-one-words}
 
 -- room for so many nodes
-pub room : (n : ℕ) (words : List ℕ) → 6 * n ≤ length words → n ≤ wholeNodes words
+pub room : (n : ℕ) (words : List ℕ) → nodeWidth * n ≤ length words → n ≤ wholeNodes words
 unfolding wholeNodes
 room n words h = omega arith
 
@@ -45,6 +47,16 @@ module _ (file : List ℕ) (held : Held) (e : verdict file ≡ holds held) where
   unfolding whollyDone
   gives answer count g before after r h x =
       x .done held e (rw (g .1) (room count before h)) .0 ∙ ap₂ (λ (n a : ℕ). whole 0 n a) (g .1) (g .0)
+
+  -- and its words, in front of those that stood past them
+  pub leaves : (answer count : ℕ) → (converted held .node ≡ answer) × (length (converted held .table) ≡ count) → (words : List ℕ) → wordsOf (converted held .table) ≡ words
+      → (before after : List ℕ) (r : Wholly) → nodeWidth * count ≤ length before → WhollyAnswered file before after r
+      → (r ≡ whole 0 count answer) × (after ≡ words ++ drop (nodeWidth * count) before)
+  unfolding writtenTo
+  leaves answer count g words w before after r h x = (
+    gives answer count g before after r h x,
+    x .done held e (rw (g .1) (room count before h)) .1 ∙ ap₂ (λ (front : List ℕ) (n : ℕ). front ++ drop (nodeWidth * n) before) w (g .1),
+  )
 
   -- what stands in the words means what the conversion means
   means : (before after : List ℕ) (r : Wholly) → WhollyAnswered file before after r → r .refusal .number ≡ 0
@@ -57,19 +69,13 @@ module _ (file : List ℕ) (held : Held) (e : verdict file ≡ holds held) where
 -- ---- P
 
 P-whole : (before after : List ℕ) (r : Wholly) → 60 ≤ length before → WhollyAnswered fileP before after r → (r ≡ whole 0 10 9) × (after ≡ wordsP ++ drop 60 before)
-unfolding writtenTo wordsP
-P-whole before after r h x =
-    let g = numbers .P-gives in
-    let d = x .done P (drafts-held .P-held) (rw (g .1) (room 10 before h)) in (
-      gives fileP P (drafts-held .P-held) 9 10 g before after r h x,
-      d .1 ∙ ap₂ (λ (words : List ℕ) (n : ℕ). words ++ drop (6 * n) before) (numbers .P-words) (g .1),
-    )
+P-whole before after r h x = leaves fileP P (drafts-held .P-held) 9 10 (numbers .P-gives) wordsP (numbers .P-words) before after r h x
 
 pub P-sound : (before after : List ℕ) (r : Wholly) → 60 ≤ length before → WhollyAnswered fileP before after r → Sound after (r .nodes) (r .answer)
 P-sound before after r h x = wholly-sound fileP before after r x P (drafts-held .P-held) (rw (numbers .P-gives .1) (room 10 before h))
 
 P-in-59 : (before after : List ℕ) (r : Wholly) → length before ≡ 59 → WhollyAnswered fileP before after r → (r ≡ whole 6 0 0) × (after ≡ replicate 59 0)
-unfolding refusedWhole allZero wholeNodes
+unfolding refusedWhole wholeNodes
 P-in-59 before after r h x =
     let g = numbers .P-gives in
     let d = x .short P (drafts-held .P-held) (rw (g .1) (omega arith)) in
@@ -117,8 +123,8 @@ P-measured before after scratch sizes r m h x l y =
     let y′ : Measures after 10 9 scratch sizes m = rw (d .0) at y in
     let z = y′ .done sound l in
     let one : heldSize (exprAt (tableOf after 10) 9) ≡ 12 = rw (d .1) (P-size (drop 60 before)) in
-    let all : sizesOf (tableOf after 10) ≡ sizesP = rw (d .1) (P-sizes (drop 60 before)) in
-    (z .0 ∙ ap (measured 0) one, z .1 ∙ ap (_++ drop 10 scratch) all)
+    let each : sizesOf (tableOf after 10) ≡ sizesP = rw (d .1) (P-sizes (drop 60 before)) in
+    (z .0 ∙ ap (measured 0) one, z .1 ∙ ap (_++ drop 10 scratch) each)
 
 P-listed : (before after out bytes : List ℕ) (r : Wholly) (l : Listed) → 60 ≤ length before → WhollyAnswered fileP before after r
     → 123 ≤ length out → Lists after (r .nodes) (r .answer) out bytes l → (l ≡ listed 0 123) × (bytes ≡ listingP ++ drop 123 out)
@@ -149,9 +155,9 @@ unfolding writtenTo
 P-one-step before after r h x =
     let n = numbers .P-one-nodes in
     let d = x .done P (drafts-held .P-held) (omega arith) (rw n (room 8 before h)) in
-    (d .0 ∙ P-one-done, d .1 ∙ ap₂ (λ (words : List ℕ) (k : ℕ). words ++ drop (6 * k) before) P-one-words n)
+    (d .0 ∙ P-one-done, d .1 ∙ ap₂ (λ (words : List ℕ) (k : ℕ). words ++ drop (nodeWidth * k) before) P-one-words n)
 
-P-three-steps : (before after : List ℕ) (r : Partly) → PartlyAnswered fileP 3 before after r → (r ≡ part 9 0 0 (replicate 80 (place 0 0 0))) × (after ≡ before)
+P-three-steps : (before after : List ℕ) (r : Partly) → PartlyAnswered fileP 3 before after r → (r ≡ part 9 0 0 (replicate listPlaces (place 0 0 0))) × (after ≡ before)
 unfolding refusedPartly
 P-three-steps before after r x = x .too-far P (drafts-held .P-held) (omega arith)
 
@@ -186,7 +192,13 @@ worked-drafts =
       endless-gives = gives fileEndless endless (drafts-held .endless-held) 4 5 (numbers .endless-gives);
       endless-denotes = denotes-just fileEndless endless (drafts-held .endless-held) (λ t. ⊥) (λ t. (endless-denotes t, λ x. absurd x));
       rowless-gives = gives fileRowless rowless (drafts-held .rowless-held) 0 2 (numbers .rowless-gives);
+      rowless-denotes = denotes-just fileRowless rowless (drafts-held .rowless-held) (λ t. ⊥) (λ t. (rowless-denotes t, λ x. absurd x));
       finalless-gives = gives fileFinalless finalless (drafts-held .finalless-held) 0 3 (numbers .finalless-gives);
+      finalless-denotes = denotes-just fileFinalless finalless (drafts-held .finalless-held) (λ t. ⊥) (λ t. (finalless-denotes t, λ x. absurd x));
       unused-gives = gives fileUnused unused (drafts-held .unused-held) 9 10 (numbers .unused-gives);
       unused-denotes = denotes-just fileUnused unused (drafts-held .unused-held) (λ t. t ≡ over 2 (leaf 0)) unused-denotes;
+      order-whole = leaves fileOrder order (drafts-held .order-held) 9 10 (numbers .order-gives) wordsOrder (numbers .order-words);
+      order-denotes = denotes-just fileOrder order (drafts-held .order-held) (Chain (0 ∷ 1 ∷ []) (2 ∷ 3 ∷ [])) order-denotes;
+      grouping-whole = leaves fileGrouping grouping (drafts-held .grouping-held) 13 14 (numbers .grouping-gives) wordsGrouping (numbers .grouping-words);
+      grouping-denotes = denotes-just fileGrouping grouping (drafts-held .grouping-held) (Chain (0 ∷ 1 ∷ 2 ∷ []) (3 ∷ 4 ∷ 5 ∷ [])) grouping-denotes;
     }

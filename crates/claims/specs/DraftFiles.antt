@@ -1,8 +1,8 @@
--- Document 01, "Worked drafts": the files of the drafts, byte by byte, a record to a line. P's bytes are the paper's own; the others are put into the paper's file format by hand, with as few states as fit and with symbols numbered in the order in which they are named.
+-- The files of the worked drafts, byte by byte, a record to a line. P's bytes are copied from 10.2; the others are put into the file format by hand, with states and symbols as 10.1 says.
 use Prim.Native.Nat.{ℕ}
 use mathlib.Core.List.{List, [], _∷_, _++_}
 
--- "03 00 01 00 02 02 00, 01 00 02 00 00, 01 00 02 00 02, 02 00 03 00 00 00, 04 00 03 00 01 01 00 00, 04 00 03 00 01 01 01 00, 00 00 09 00"
+-- P [10.2]
 unfoldable pub fileP : List ℕ
 fileP =
     (3 ∷ 0 ∷ 1 ∷ 0 ∷ 2 ∷ 2 ∷ 0 ∷ [])
@@ -13,7 +13,7 @@ fileP =
     ++ (4 ∷ 0 ∷ 3 ∷ 0 ∷ 1 ∷ 1 ∷ 1 ∷ 0 ∷ [])
     ++ (0 ∷ 0 ∷ 9 ∷ 0 ∷ [])
 
--- "a to 0, b to 0, g(0,0) to 1, final 1": a is symbol 0, b is 1, g is 2
+-- the four pairs: a is symbol 0, b is 1, g is 2 [10.9]
 unfoldable pub filePairs : List ℕ
 filePairs =
     (3 ∷ 0 ∷ 1 ∷ 0 ∷ 2 ∷ 2 ∷ 0 ∷ [])
@@ -25,7 +25,7 @@ filePairs =
     ++ (4 ∷ 0 ∷ 3 ∷ 0 ∷ 2 ∷ 1 ∷ 0 ∷ 0 ∷ [])
     ++ (0 ∷ 0 ∷ 9 ∷ 0 ∷ [])
 
--- "a to 0, g(0,0) to 0, final 0": a is symbol 0, g is 1
+-- a is symbol 0, g is 1 [10.10]
 unfoldable pub fileNested : List ℕ
 fileNested =
     (3 ∷ 0 ∷ 1 ∷ 0 ∷ 1 ∷ 1 ∷ 0 ∷ [])
@@ -35,7 +35,7 @@ fileNested =
     ++ (4 ∷ 0 ∷ 3 ∷ 0 ∷ 1 ∷ 0 ∷ 0 ∷ 0 ∷ [])
     ++ (0 ∷ 0 ∷ 9 ∷ 0 ∷ [])
 
--- "h(0) to 0, final 0": h is symbol 0
+-- h is symbol 0, and nothing begins [10.11]
 unfoldable pub fileEndless : List ℕ
 fileEndless =
     (3 ∷ 0 ∷ 1 ∷ 0 ∷ 1 ∷ 1 ∷ 0 ∷ [])
@@ -43,14 +43,14 @@ fileEndless =
     ++ (3 ∷ 0 ∷ 3 ∷ 0 ∷ 0 ∷ 0 ∷ 0 ∷ [])
     ++ (0 ∷ 0 ∷ 9 ∷ 0 ∷ [])
 
--- "One state, final, no rows": a file has a symbol, here of arity 0
+-- no rows [10.12]
 unfoldable pub fileRowless : List ℕ
 fileRowless =
     (3 ∷ 0 ∷ 1 ∷ 0 ∷ 1 ∷ 1 ∷ 0 ∷ [])
     ++ (1 ∷ 0 ∷ 2 ∷ 0 ∷ 0 ∷ [])
     ++ (0 ∷ 0 ∷ 9 ∷ 0 ∷ [])
 
--- "a to 0, no final": a is symbol 0
+-- no final state: a is symbol 0 [10.13]
 unfoldable pub fileFinalless : List ℕ
 fileFinalless =
     (3 ∷ 0 ∷ 1 ∷ 0 ∷ 1 ∷ 0 ∷ 0 ∷ [])
@@ -58,7 +58,7 @@ fileFinalless =
     ++ (2 ∷ 0 ∷ 3 ∷ 0 ∷ 0 ∷ 0 ∷ [])
     ++ (0 ∷ 0 ∷ 9 ∷ 0 ∷ [])
 
--- "States 0 to 2, a to 0, h(1) to 0, g(0) to 2, final 2": a is symbol 0, h is 1, g is 2
+-- state 1 is reached by nothing: a is symbol 0, h is 1, g is 2 [10.14]
 unfoldable pub fileUnused : List ℕ
 fileUnused =
     (3 ∷ 0 ∷ 1 ∷ 0 ∷ 3 ∷ 4 ∷ 0 ∷ [])
@@ -68,4 +68,47 @@ fileUnused =
     ++ (2 ∷ 0 ∷ 3 ∷ 0 ∷ 0 ∷ 0 ∷ [])
     ++ (3 ∷ 0 ∷ 3 ∷ 0 ∷ 1 ∷ 0 ∷ 1 ∷ [])
     ++ (3 ∷ 0 ∷ 3 ∷ 0 ∷ 2 ∷ 2 ∷ 0 ∷ [])
+    ++ (0 ∷ 0 ∷ 9 ∷ 0 ∷ [])
+
+-- two looping and two incoming rows: a is symbol 0, b is 1, g is 2, h is 3 [10.15]
+unfoldable pub fileOrder : List ℕ
+fileOrder =
+    (3 ∷ 0 ∷ 1 ∷ 0 ∷ 1 ∷ 1 ∷ 0 ∷ [])
+    ++ (1 ∷ 0 ∷ 2 ∷ 0 ∷ 0 ∷ [])
+    ++ (1 ∷ 0 ∷ 2 ∷ 0 ∷ 0 ∷ [])
+    ++ (1 ∷ 0 ∷ 2 ∷ 0 ∷ 1 ∷ [])
+    ++ (1 ∷ 0 ∷ 2 ∷ 0 ∷ 1 ∷ [])
+    ++ (2 ∷ 0 ∷ 3 ∷ 0 ∷ 0 ∷ 0 ∷ [])
+    ++ (2 ∷ 0 ∷ 3 ∷ 0 ∷ 1 ∷ 0 ∷ [])
+    ++ (3 ∷ 0 ∷ 3 ∷ 0 ∷ 2 ∷ 0 ∷ 0 ∷ [])
+    ++ (3 ∷ 0 ∷ 3 ∷ 0 ∷ 3 ∷ 0 ∷ 0 ∷ [])
+    ++ (0 ∷ 0 ∷ 9 ∷ 0 ∷ [])
+
+-- three of each: a is symbol 0, b is 1, c is 2, g is 3, h is 4, k is 5 [10.16]
+unfoldable pub fileGrouping : List ℕ
+fileGrouping =
+    (3 ∷ 0 ∷ 1 ∷ 0 ∷ 1 ∷ 1 ∷ 0 ∷ [])
+    ++ (1 ∷ 0 ∷ 2 ∷ 0 ∷ 0 ∷ [])
+    ++ (1 ∷ 0 ∷ 2 ∷ 0 ∷ 0 ∷ [])
+    ++ (1 ∷ 0 ∷ 2 ∷ 0 ∷ 0 ∷ [])
+    ++ (1 ∷ 0 ∷ 2 ∷ 0 ∷ 1 ∷ [])
+    ++ (1 ∷ 0 ∷ 2 ∷ 0 ∷ 1 ∷ [])
+    ++ (1 ∷ 0 ∷ 2 ∷ 0 ∷ 1 ∷ [])
+    ++ (2 ∷ 0 ∷ 3 ∷ 0 ∷ 0 ∷ 0 ∷ [])
+    ++ (2 ∷ 0 ∷ 3 ∷ 0 ∷ 1 ∷ 0 ∷ [])
+    ++ (2 ∷ 0 ∷ 3 ∷ 0 ∷ 2 ∷ 0 ∷ [])
+    ++ (3 ∷ 0 ∷ 3 ∷ 0 ∷ 3 ∷ 0 ∷ 0 ∷ [])
+    ++ (3 ∷ 0 ∷ 3 ∷ 0 ∷ 4 ∷ 0 ∷ 0 ∷ [])
+    ++ (3 ∷ 0 ∷ 3 ∷ 0 ∷ 5 ∷ 0 ∷ 0 ∷ [])
+    ++ (0 ∷ 0 ∷ 9 ∷ 0 ∷ [])
+
+-- no draft of section 10: P with its two symbols exchanged, so that g is symbol 0 and a is 1
+unfoldable pub fileExchanged : List ℕ
+fileExchanged =
+    (3 ∷ 0 ∷ 1 ∷ 0 ∷ 2 ∷ 2 ∷ 0 ∷ [])
+    ++ (1 ∷ 0 ∷ 2 ∷ 0 ∷ 2 ∷ [])
+    ++ (1 ∷ 0 ∷ 2 ∷ 0 ∷ 0 ∷ [])
+    ++ (2 ∷ 0 ∷ 3 ∷ 0 ∷ 1 ∷ 0 ∷ [])
+    ++ (4 ∷ 0 ∷ 3 ∷ 0 ∷ 0 ∷ 1 ∷ 0 ∷ 0 ∷ [])
+    ++ (4 ∷ 0 ∷ 3 ∷ 0 ∷ 0 ∷ 1 ∷ 1 ∷ 0 ∷ [])
     ++ (0 ∷ 0 ∷ 9 ∷ 0 ∷ [])

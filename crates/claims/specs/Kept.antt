@@ -1,50 +1,79 @@
--- Each promise can be kept: for every input there is an outcome that keeps it, with a lent buffer as long as it was. So no promise of a public function is empty, and none asks for what cannot be. (That the functions keep them is what the checker proves of the code.)
+-- Each promise can be kept [12.1, 12.2]: for every input there is an outcome that keeps it. What is returned fits the types that the code declares; a lent buffer is as long as it was [0.16], and its words or bytes still fit their type where they did before. So no promise of a public function is empty, and none asks for what cannot be. (That the functions keep them is what the prover shows of the code.)
 use Prim.Native.Nat.{ℕ}
 use mathlib.Core.Path.{_≡_}
 use mathlib.Core.Bool.{Bool}
 use mathlib.Core.List.{List}
 use lib.ListN.{length}
+use Rattle.sets.specs.declared.StateSet.{StateSet}
+use Rattle.sets.specs.Promises.{IsEmpty, IsOne, IsOfWord, IsUnion, SaysMember, SaysPast, IsWithout, IsCount}
+use Rattle.ground.specs.Decimal.{decimal}
+use Rattle.ground.specs.Writing.{Puts}
+use Rattle.ground.specs.Promises.{IsIndex, IsWidened, CountsDigits, Clears}
 use Rattle.automaton.specs.declared.Automaton.{Automaton}
-use Rattle.automaton.specs.declared.Refusal.{Refusal}
-use Rattle.automaton.specs.declared.Reading.{Reading}
-use Rattle.automaton.specs.declared.Writing.{Writing}
-use Rattle.automaton.specs.Answers.{readAnswer, Written}
-use Rattle.trees.specs.declared.ReachedStates.{ReachedStates}
-use Rattle.trees.specs.declared.ProductiveStates.{ProductiveStates}
+use Rattle.automaton.specs.Answers.{readAnswer}
+use Rattle.writer.specs.Answers.{Written}
 use Rattle.trees.specs.Promises.{RunPromise, ProductivePromise}
-use Rattle.expressions.specs.declared.Measured.{Measured}
-use Rattle.expressions.specs.declared.Listed.{Listed}
-use Rattle.expressions.specs.Nodes.{shapeOf}
+use Rattle.expressions.specs.declared.Shape.{Shape}
+use Rattle.expressions.specs.Nodes.{childCount}
+use Rattle.expressions.specs.Words.{nodeIn}
 use Rattle.expressions.specs.Making.{Makes}
-use Rattle.expressions.specs.Answers.{SoundAnswer, Measures, Lists}
-use Rattle.elimination.specs.declared.Partly.{Partly}
-use Rattle.elimination.specs.declared.Wholly.{Wholly}
+use Rattle.expressions.specs.Answers.{SoundAnswer, Measures}
+use Rattle.listing.specs.Answers.{Lists}
 use Rattle.elimination.specs.Answers.{PartlyAnswered, WhollyAnswered}
 use Rattle.front.specs.declared.Printing.{Printing}
 use Rattle.front.specs.Answers.{Prints}
+use Rattle.claims.specs.Types.{Byte, Short, Word, Long, Bytes, Words, SetFits, RefusalFits, ReadingFits, WritingFits, ReachedFits, ProductiveFits, ShapeFits, NodeFits, MeasuredFits, ListedFits, PartlyFits, WhollyFits, PrintingFits}
 
--- some answer keeps the promise
-abbrev pub Kept : {A : Type 0} → (A → Type 0) → Type 0
-Kept {A} Promise = (r : A) × Promise r
+-- a yes or no has no number that would have to fit
+abbrev pub YesFits : Bool → Type 0
+YesFits r = Unit {0}
 
--- some answer and some content of the lent buffer keep it
-abbrev pub KeptBoth : {A : Type 0} → List ℕ → (List ℕ → A → Type 0) → Type 0
-KeptBoth {A} before Promise = (after : List ℕ) × (r : A) × Promise after r × (length after ≡ length before)
+-- something that fits is returned and keeps the promise
+abbrev pub Kept : {A : Type 0} → (A → Type 0) → (A → Type 0) → Type 0
+Kept {A} Fit Promise = (r : A) × Promise r × Fit r
 
--- some answer and some contents of two lent buffers keep it
-abbrev pub KeptAll : {A : Type 0} → List ℕ → List ℕ → (List ℕ → List ℕ → A → Type 0) → Type 0
-KeptAll {A} nodes out Promise = (after bytes : List ℕ) × (r : A) × Promise after bytes r × (length after ≡ length nodes) × (length bytes ≡ length out)
+-- the content of a lent buffer afterwards: as long, and of the same type
+abbrev pub Stays : (List ℕ → Type 0) → (before after : List ℕ) → Type 0
+Stays Typed before after = (length after ≡ length before) × (Typed before → Typed after)
+
+-- some content of the lent buffer and something returned keep the promise
+abbrev pub KeptBoth : {A : Type 0} → (A → Type 0) → (List ℕ → Type 0) → List ℕ → (List ℕ → A → Type 0) → Type 0
+KeptBoth {A} Fit Typed before Promise = (after : List ℕ) × (r : A) × Promise after r × Stays Typed before after × Fit r
 
 pub record EachKept : Type 0 where
-  pub read : (file : List ℕ) → Kept {A = Reading} (λ r. r ≡ readAnswer file)
-  pub write : (value : Automaton) (before : List ℕ) → KeptBoth {A = Writing} before (λ after r. Written value before after r)
-  pub run : (file words : List ℕ) → Kept {A = ReachedStates} (λ r. RunPromise file words r)
-  pub productive : (file : List ℕ) → Kept {A = ProductiveStates} (λ r. ProductivePromise file r)
-  pub is-sound : (words : List ℕ) (count answer : ℕ) → Kept {A = Bool} (λ r. SoundAnswer words count answer r)
-  pub make : (before : List ℕ) (count kind label first second third : ℕ)
-      → KeptBoth {A = Refusal} before (λ after r. Makes before count (shapeOf kind label first second third) after r)
-  pub measure : (words : List ℕ) (count answer : ℕ) (before : List ℕ) → KeptBoth {A = Measured} before (λ after r. Measures words count answer before after r)
-  pub list : (words : List ℕ) (count answer : ℕ) (before : List ℕ) → KeptBoth {A = Listed} before (λ after r. Lists words count answer before after r)
-  pub convert-partly : (file : List ℕ) (k : ℕ) (before : List ℕ) → KeptBoth {A = Partly} before (λ after r. PartlyAnswered file k before after r)
-  pub convert : (file before : List ℕ) → KeptBoth {A = Wholly} before (λ after r. WhollyAnswered file before after r)
-  pub printed : (file nodes out : List ℕ) → KeptAll {A = Printing} nodes out (λ after bytes r. Prints file nodes after out bytes r)
+  -- sets [2.8 to 2.10]
+  pub set-empty : Kept SetFits IsEmpty
+  pub set-one : (state : ℕ) → Kept SetFits (IsOne state)
+  pub set-of-word : (word : ℕ) → Kept SetFits (IsOfWord word)
+  pub set-union : (self other : StateSet) → Kept SetFits (IsUnion self other)
+  pub set-has : (self : StateSet) (state : ℕ) → Kept YesFits (SaysMember self state)
+  pub set-past : (self : StateSet) (count : ℕ) → Kept YesFits (SaysPast self count)
+  pub set-without : (self : StateSet) (state : ℕ) → Kept SetFits (IsWithout self state)
+  pub set-count : (self : StateSet) → Kept Word (IsCount self)
+  -- helpers [2.11, 2.12, 7.21]; what they are given is of its type too
+  pub index : (byte : ℕ) → Byte byte → Kept Long (IsIndex byte)
+  pub wide : (byte : ℕ) → Byte byte → Kept Word (IsWidened byte)
+  pub wide-16 : (number : ℕ) → Short number → Kept Word (IsWidened number)
+  pub clear : (before : List ℕ) → (after : List ℕ) × Clears before after × Stays Words before after
+  pub digits : (n : ℕ) → Long n → Kept Long (CountsDigits n)
+  pub put-bytes : (before : List ℕ) (at : ℕ) (bytes : List ℕ) → Long (length before) → Long at → Bytes bytes → KeptBoth Long Bytes before (Puts before at bytes)
+  pub put-number : (before : List ℕ) (at n : ℕ) → Long (length before) → Long at → KeptBoth Long Bytes before (Puts before at (decimal n))
+  -- files [3.17, 3.20]
+  pub read : (file : List ℕ) → Kept ReadingFits (λ r. r ≡ readAnswer file)
+  pub write : (value : Automaton) (before : List ℕ) → KeptBoth WritingFits Bytes before (Written value before)
+  -- runs [5.5, 5.8]
+  pub run : (file words : List ℕ) → Kept ReachedFits (RunPromise file words)
+  pub productive : (file : List ℕ) → Kept ProductiveFits (ProductivePromise file)
+  -- tables [7.13, 7.15, 7.20, 9.3, 9.8]
+  pub child-count : (shape : Shape) → ShapeFits shape → Kept Word (λ r. r ≡ childCount (shape .kind) (shape .label))
+  pub node-at : (words : List ℕ) (i : ℕ) → Words words → Kept NodeFits (λ r. r ≡ nodeIn words i)
+  pub is-sound : (words : List ℕ) (count answer : ℕ) → Kept YesFits (SoundAnswer words count answer)
+  pub make : (before : List ℕ) (count : ℕ) (shape : Shape) → KeptBoth RefusalFits Words before (Makes before count shape)
+  pub measure : (words : List ℕ) (count answer : ℕ) (before : List ℕ) → KeptBoth MeasuredFits Words before (Measures words count answer before)
+  pub list : (words : List ℕ) (count answer : ℕ) (before : List ℕ) → Long (length before) → KeptBoth ListedFits Bytes before (Lists words count answer before)
+  -- conversions [8.21, 8.26]
+  pub convert-partly : (file : List ℕ) (k : ℕ) (before : List ℕ) → KeptBoth PartlyFits Words before (PartlyAnswered file k before)
+  pub convert : (file before : List ℕ) → KeptBoth WhollyFits Words before (WhollyAnswered file before)
+  -- what is printed [9.13]: two buffers
+  pub printed : (file nodes out : List ℕ) → Long (length out)
+      → (after bytes : List ℕ) × (r : Printing) × Prints file nodes after out bytes r × Stays Words nodes after × Stays Bytes out bytes × PrintingFits r

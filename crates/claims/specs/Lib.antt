@@ -1,3 +1,5 @@
+-- what a reader must believe
+pub mod Types
 pub mod Refusals
 pub mod Meanings
 pub mod Slips

@@ -1,10 +1,11 @@
--- Document 01, "Slips that look reasonable": that the meaning here makes none of them. Symbol 0 is a leaf a, symbol 1 a leaf b, symbol 2 has two subtrees; the letters are holes 0 and 1.
+-- The meaning makes none of the five slips [11.1 to 11.5]. Symbol 0 is a leaf a, symbol 1 a leaf b, symbol 2 has two subtrees; the letters are holes 0 and 1, below q and p.
 use Prim.Native.Nat.{ℕ}
 use mathlib.Core.Path.{_≡_}
 use mathlib.Core.Logic.{_↔_}
-use Rattle.trees.specs.Trees.{Tree, Forest, hole, node, []ᶠ, _∷ᶠ_}
-use Rattle.expressions.specs.Expressions.{Expr, emptyᴱ, holeᴱ, symbolᴱ, altᴱ, catᴱ, iterᴱ, []ᴱ, _∷ᴱ_, Denotes}
+use Rattle.meaning.specs.Trees.{Tree, Forest, hole, node, []ᶠ, _∷ᶠ_}
+use Rattle.meaning.specs.Expressions.{Expr, emptyᴱ, holeᴱ, symbolᴱ, altᴱ, catᴱ, iterᴱ, []ᴱ, _∷ᴱ_, Denotes}
 
+-- the trees and expressions of these cases
 abbrev pub leaf : ℕ → Tree
 leaf f = node f []ᶠ
 
@@ -17,7 +18,7 @@ leafᴱ f = symbolᴱ f []ᴱ
 abbrev pub twoᴱ : Expr → Expr → Expr
 twoᴱ a b = symbolᴱ 2 (a ∷ᴱ b ∷ᴱ []ᴱ)
 
--- the hole q occurs nowhere in the tree
+-- the hole q occurs nowhere in the tree [11.2]
 abbrev mutual
   pub Lacks : ℕ → Tree → Type 0
   Lacks q (hole p) = p ≡ q → ⊥
@@ -28,15 +29,16 @@ abbrev mutual
   LackEach q (t ∷ᶠ ts) = Lacks q t × LackEach q ts
 
 pub record NoSlip : Type 0 where
-  -- "Replacing all holes of one letter by one tree.": f(q,q) closed with a + b has f(a,b)
+  -- each place has its own choice: f(q,q) over q with a or b has f(a,b) [11.1]
   pub each-hole-apart : Denotes (catᴱ 0 (twoᴱ (holeᴱ 0) (holeᴱ 0)) (altᴱ (leafᴱ 0) (leafᴱ 1))) (two (leaf 0) (leaf 1))
-  -- "Taking E concatenated with empty for empty": it has just those trees of E that lack the hole
+  -- what is closed with empty keeps just those of its trees that lack the letter [11.2]
   pub closed-with-empty : (q : ℕ) (e : Expr) (t : Tree) → Denotes (catᴱ q e emptyᴱ) t ↔ (Denotes e t × Lacks q t)
-  -- "Levels of iteration without the earlier levels.": the iteration of f(q,q), closed with a, has f(f(a,a),a)
+  -- a level has the one before it: the iteration of f(q,q), over q with a, has f(f(a,a),a) [11.3]
   pub earlier-levels-kept : Denotes (catᴱ 0 (iterᴱ 0 (twoᴱ (holeᴱ 0) (holeᴱ 0))) (leafᴱ 0)) (two (two (leaf 0) (leaf 0)) (leaf 0))
-  -- "Letting a hole brought in by F be replaced again by the same concatenation.": f(q,a) closed with f(q,b) is f(f(q,b),a) alone
+  -- a hole that came in from the right stays: f(q,a) over q with f(q,b) is f(f(q,b),a) alone [11.4]
   pub not-replaced-again : (t : Tree)
       → Denotes (catᴱ 0 (twoᴱ (holeᴱ 0) (leafᴱ 0)) (twoᴱ (holeᴱ 0) (leafᴱ 1))) t ↔ (t ≡ two (two (hole 0) (leaf 1)) (leaf 0))
-  -- "Treating concatenations over different letters as associative": f(q,p) over q with p, then over p with a, has f(a,a); f(q,p) over q with (p over p with a) has not
+  -- two letters are not regrouped: f(q,p) over q with p, and that over p with a, has f(a,a) [11.5]
   pub one-way : Denotes (catᴱ 1 (catᴱ 0 (twoᴱ (holeᴱ 0) (holeᴱ 1)) (holeᴱ 1)) (leafᴱ 0)) (two (leaf 0) (leaf 0))
+  -- but f(q,p) over q with what p gives over p with a has it not [11.5]
   pub not-the-other : Denotes (catᴱ 0 (twoᴱ (holeᴱ 0) (holeᴱ 1)) (catᴱ 1 (holeᴱ 1) (leafᴱ 0))) (two (leaf 0) (leaf 0)) → ⊥

@@ -1,4 +1,4 @@
--- Document 01, "Measuring and listing": "A program reads at most 4,096 bytes of a file from standard input, converts it and prints the listing, or "refused N"."
+-- What the program has ready to print [9.9 to 9.12].
 use Prim.Native.Nat.{ℕ, _≤_}
 use mathlib.Core.Path.{_≡_}
 use mathlib.Core.List.{List}

@@ -1,19 +1,20 @@
 -- Makers one after the other: what each promises of the words that it was lent is so of the words at the start.
 use Prim.Native.Nat.{ℕ, _<_, _≤_}
 use native.Mathlib.Omega.{arith}
-use mathlib.Core.Path.{_≡_, sym, _∙_, ap, subst}
+use mathlib.Core.Path.{_≡_, refl, sym, _∙_, ap, subst}
 use mathlib.Core.Bool.{Bool, true, false, cond}
 use mathlib.Core.List.{List, [], _∷_}
 use lib.ListN.{length}
-use Rattle.expressions.specs.Nodes.{Shape, Table, altShape, catShape, iterShape}
+use Rattle.expressions.specs.declared.Shape.{Shape}
+use Rattle.expressions.specs.Nodes.{Table, altShape, catShape, iterShape}
 use Rattle.expressions.specs.Words.{tableOf}
+use Rattle.theory.specs.Stages.{Stage, holeAt, Made, already, added, isEmptyNode, isHoleNode, altMade, catMade, iterMade, joinMadeFrom, joinMade}
+use Rattle.theory.proofs.Grows.{alt-grows}
+use Rattle.theory.proofs.StartTable.{with-length}
+use Rattle.theory.proofs.Mirror.{Low, low-grown}
 use Rattle.elimination.specs.declared.maker.Got.{Got}
-use Rattle.elimination.specs.declared.taking.Moved.{Moved}
-use Rattle.elimination.specs.Stages.{Stage, holeAt, Made, already, added, isEmptyNode, isHoleNode, altMade, catMade, iterMade, joinMadeFrom, joinMade}
-use Rattle.elimination.specs.Inside.{Ready, Holds, Gives, Moves}
-use Rattle.elimination.proofs.Grows.{alt-grows}
-use Rattle.elimination.proofs.StartTable.{with-length}
-use Rattle.elimination.proofs.Mirror.{Low, low-grown}
+use Rattle.elimination.specs.declared.rows.Staged.{Staged}
+use Rattle.elimination.specs.Inside.{Ready, Holds, TooLarge, GivesNode, GivesStage}
 use Rattle.elimination.proofs.Holding.{never, holds-table, holds-ready, holds-then, large-before}
 
 -- ---- the made node stands in the made table
@@ -51,18 +52,18 @@ join-low table bs h low = joinFrom-low table 0 bs h low
 
 -- what stands then
 pub record Given (before : List ℕ) (made : Made) (after : List ℕ) (g : Got) : Type 0 where
-  pub held : Holds before (made .table) after
+  pub holds : Holds before (made .table) after
   pub counted : g .count ≡ length (made .table)
   pub node : g .node ≡ made .node
   pub ready : Ready after (g .count)
   pub table : tableOf after (g .count) ≡ made .table
 
-pub given : {before after : List ℕ} {made : Made} {g : Got} → Gives before made after g → g .full ≡ false → Given before made after g
+pub given : {before after : List ℕ} {made : Made} {g : Got} → GivesNode before made after g → g .full ≡ false → Given before made after g
 given {before} {after} {made} {g} x f =
     let h = x .holds f in
     let e = x .counted f in
     record {
-      held = h;
+      holds = h;
       counted = e;
       node = x .node f;
       ready = subst (λ (n : ℕ). Ready after n) (sym e) (holds-ready h);
@@ -70,20 +71,20 @@ given {before} {after} {made} {g} x f =
     }
 
 -- it could not be done: then all that goes on from there could not
-pub gives-stop : {before after : List ℕ} {made : Made} {g : Got} → Gives before made after g → g .full ≡ true → (whole : Made) → length (made .table) ≤ length (whole .table)
-    → Gives before whole after g
+pub gives-stop : {before after : List ℕ} {made : Made} {g : Got} → GivesNode before made after g → g .full ≡ true → (whole : Made) → length (made .table) ≤ length (whole .table)
+    → GivesNode before whole after g
 gives-stop {before} {after} {made} {g} x f whole l =
     record {
-      full = λ _ few held. x .full f (omega arith) (omega arith);
+      full = λ _ few roomy. x .full f (omega arith) (omega arith);
       holds = λ e. absurd (never (sym f ∙ e));
       counted = λ e. absurd (never (sym f ∙ e));
       node = λ e. absurd (never (sym f ∙ e));
     }
 
 -- it could, and another went on from there
-pub gives-then : {a b c : List ℕ} {first : Table} (next whole : Made) {g : Got} → Holds a first b → Gives b next c g → next ≡ whole → length first ≤ length (whole .table) → Gives a whole c g
+pub gives-then : {a b c : List ℕ} {first : Table} (next whole : Made) {g : Got} → Holds a first b → GivesNode b next c g → next ≡ whole → length first ≤ length (whole .table) → GivesNode a whole c g
 gives-then {a} {b} {c} {first} next whole {g} h x e l =
-    let y : Gives b whole c g = subst (λ (m : Made). Gives b m c g) e x in
+    let y : GivesNode b whole c g = subst (λ (m : Made). GivesNode b m c g) e x in
     record {
       full = λ f. large-before (whole .table) (whole .table) h (y .full f) (omega arith);
       holds = λ f. holds-then h (y .holds f) l;
@@ -91,12 +92,22 @@ gives-then {a} {b} {c} {first} next whole {g} h x e l =
       node = y .node;
     }
 
--- the same for a maker of rows
-pub moves-then : {a b c : List ℕ} {first : Table} {stage : Stage} {r : Moved} → Holds a first b → Moves b stage c r → length first ≤ length (stage .table) → Moves a stage c r
-moves-then {stage = stage} h x l =
+-- the same for makers of rows
+pub stage-stop : {before after : List ℕ} (table : Table) (stage : Stage) → TooLarge before table → length table ≤ length (stage .table) → (r : Staged) → r .full ≡ true → GivesStage before stage after r
+stage-stop table stage t l r f =
     record {
-      full = λ f. large-before (stage .table) (stage .table) h (x .full f) (omega arith);
-      holds = λ f. holds-then h (x .holds f) l;
-      counted = x .counted;
-      listed = x .listed;
+      full = λ _ few roomy. t (omega arith) (omega arith);
+      holds = λ e. absurd (never (sym f ∙ e));
+      counted = λ e. absurd (never (sym f ∙ e));
+      listed = λ e. absurd (never (sym f ∙ e));
+    }
+
+pub stage-then : {a b c : List ℕ} {first : Table} (next whole : Stage) {r : Staged} → Holds a first b → GivesStage b next c r → next ≡ whole → length first ≤ length (whole .table) → GivesStage a whole c r
+stage-then {a} {b} {c} {first} next whole {r} h x e l =
+    let y : GivesStage b whole c r = subst (λ (s : Stage). GivesStage b s c r) e x in
+    record {
+      full = λ f. large-before (whole .table) (whole .table) h (y .full f) (omega arith);
+      holds = λ f. holds-then h (y .holds f) l;
+      counted = y .counted;
+      listed = y .listed;
     }

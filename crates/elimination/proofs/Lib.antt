@@ -1,30 +1,18 @@
-pub mod Lists
-pub mod OnExpressions
-pub mod Levels
-pub mod OneState
-pub mod Making
-pub mod Step
-pub mod Start
-pub mod Whole
-pub mod Fitting
-pub mod Grows
-pub mod Mirror
-pub mod MirrorRows
-pub mod StartTable
-pub mod Converted
-pub mod Room
-pub mod Bound
-pub mod Theorem
-pub mod OnWords
-pub mod Turns
+-- the lent words, the makers of nodes, and the row list
 pub mod Holding
-pub mod RowList
+pub mod Makers
 pub mod Composing
-pub mod JoinLoop
-pub mod ReplaceLoop
-pub mod StandIn
-pub mod StepLoop
-pub mod StartLoops
+pub mod RowList
+-- the start
+pub mod Starting
+-- one state
+pub mod Joining
+pub mod Replacing
+pub mod OneState
+-- the states, the join, and the public promises
+pub mod States
 pub mod Conversion
 pub mod Promises
+-- what follows for those who call
+pub mod OnWords
 pub mod Outcomes

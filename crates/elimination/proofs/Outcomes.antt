@@ -7,15 +7,15 @@ use mathlib.Core.List.{List}
 use lib.ListN.{length, drop}
 use Rattle.automaton.specs.Held.{Held}
 use Rattle.automaton.specs.Checks.{Verdict, holds, fault, verdict}
-use Rattle.automaton.proofs.Laws.{alike}
+use Rattle.ground.proofs.Deciding.{alike}
 use Rattle.automaton.proofs.Pair.{verdict-valid}
 use Rattle.expressions.specs.Soundness.{Sound}
 use Rattle.expressions.specs.Words.{nodeWidth}
 use Rattle.elimination.specs.declared.Partly.{Partly}
 use Rattle.elimination.specs.declared.Wholly.{Wholly}
-use Rattle.elimination.specs.Stages.{stageAfter, converted, boundOf}
+use Rattle.theory.specs.Stages.{stageAfter, converted, boundOf}
 use Rattle.elimination.specs.Answers.{wholeNodes, writtenTo, partlyDone, PartlyAnswered, whollyDone, WhollyAnswered}
-use Rattle.elimination.proofs.Theorem.{partly-ascending, wholly-ascending}
+use Rattle.theory.proofs.Theorem.{partly-ascending, wholly-ascending}
 use Rattle.elimination.proofs.OnWords.{made-words-sound}
 
 -- ---- a partial conversion
@@ -36,7 +36,7 @@ module _ (file : List ℕ) (k : ℕ) (before : List ℕ) where
       go (holds held) e = far held e (decLt (held .states) k)
       go (fault number offset) e = alike (x .faulty number offset e) (y .faulty number offset e)
 
-  -- "They never exceed 1 + n + t + n × (t + f + 1) + f": where so many whole nodes fit, the conversion is done
+  -- where as many whole nodes fit as the bound says, the conversion is done
   pub partly-fits : (after : List ℕ) (r : Partly) → PartlyAnswered file k before after r → (held : Held) → verdict file ≡ holds held → k ≤ held .states → boundOf held ≤ wholeNodes before → r .refusal .number ≡ 0
   unfolding partlyDone
   partly-fits after r x held e h room =

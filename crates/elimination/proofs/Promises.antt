@@ -1,92 +1,106 @@
--- The public promises: how they follow from what the private parts do.
-use Prim.Native.Nat.{ℕ, zero, suc, _+_, _*_, _<_, _≤_}
+-- The public promises: how they follow from what the private functions do.
+use Prim.Native.Nat.{ℕ, suc, _+_, _*_, _<_, _≤_}
 use native.Mathlib.Omega.{arith}
 use mathlib.Core.Path.{_≡_, refl, sym, _∙_, ap, ap₂, subst}
-use mathlib.Core.Bool.{Bool, true, false, cond}
+use mathlib.Core.Bool.{Bool, true, false}
 use mathlib.Core.List.{List, [], _∷_, _++_, map, map-append}
 use lib.ListN.{length, getD, set, take, drop, replicate, length-map}
-use lib.Seq.{length-take-le}
-use Rattle.sets.specs.Members.{has, howMany, size, stateWidth}
+use lib.Seq.{length-take-le, take-all}
+use Rattle.ground.specs.Lists.{filled}
+use Rattle.ground.specs.Writing.{allZero}
+use Rattle.ground.proofs.Places.{filled-none, filled-set, filled-take}
 use Rattle.automaton.specs.declared.Automaton.{Automaton}
 use Rattle.automaton.specs.declared.Reading.{Reading}
+use Rattle.automaton.specs.declared.Refusal.{Refusal}
 use Rattle.automaton.specs.Held.{Held, Valid}
 use Rattle.automaton.specs.Checks.{Verdict, holds, fault, verdict}
-use Rattle.automaton.specs.Answers.{filled, placed, heldBy, readingOf, readAnswer}
-use Rattle.automaton.proofs.Places.{filled-none, filled-set, filled-take}
-use Rattle.automaton.proofs.Faults.{fault-some}
-use Rattle.automaton.proofs.Laws.{held-placed}
+use Rattle.automaton.specs.Refusals.{refusal}
+use Rattle.automaton.specs.Answers.{heldBy, readAnswer}
+use Rattle.automaton.specs.Handed.{Handed}
 use Rattle.automaton.proofs.Pair.{verdict-valid}
-use Rattle.expressions.specs.Nodes.{Node, Table}
-use Rattle.expressions.specs.Words.{nodeWidth, readNode, tableOf, wordsOf}
-use Rattle.expressions.specs.Making.{refusal}
-use Rattle.expressions.proofs.Words.{table-words}
+use Rattle.automaton.proofs.Handing.{read-refused, read-done, read-held}
+use Rattle.expressions.specs.declared.Node.{Node}
+use Rattle.expressions.specs.Nodes.{Table}
+use Rattle.expressions.specs.Words.{nodeWidth, nodeIn, tableOf, wordsOf}
+use Rattle.expressions.proofs.Words.{table-words, length-table}
+use Rattle.theory.specs.declared.NodeRow.{NodeRow}
+use Rattle.theory.specs.RowLists.{listPlaces}
+use Rattle.theory.specs.Stages.{Stage, Made, waitsFor, stageAfter, converted}
+use Rattle.theory.specs.Theorem.{PartlyConverted, WhollyConverted}
+use Rattle.theory.proofs.Bound.{bound-file}
+use Rattle.theory.proofs.Theorem.{partly-ascending, wholly-ascending}
 use Rattle.elimination.specs.declared.maker.Got.{Got}
-use Rattle.elimination.specs.declared.taking.Rows.{Rows}
-use Rattle.elimination.specs.declared.taking.Moved.{Moved}
+use Rattle.elimination.specs.declared.rows.Rows.{Rows}
+use Rattle.elimination.specs.declared.rows.Staged.{Staged}
 use Rattle.elimination.specs.declared.ListRow.{ListRow}
 use Rattle.elimination.specs.declared.Partly.{Partly}
-use Rattle.elimination.specs.Stages.{NodeRow, Stage, Made, waitsFor, stageAfter, converted}
-use Rattle.elimination.specs.Theorem.{PartlyConverted, WhollyConverted}
-use Rattle.elimination.specs.Answers.{wholeNodes, writtenTo, allZero, listPlaces, unusedPlace, listRow, listOfRows, refusedPartly, partlyDone, rowOfPlace, stageAnswered, PartlyAnswered, refusedWhole, whollyDone, madeAnswered, WhollyAnswered}
-use Rattle.elimination.specs.Inside.{Ready, Gives, Moves, Good, noPlace, rowOf, rowsIn, Listed}
-use Rattle.elimination.proofs.Bound.{bound-file}
-use Rattle.elimination.proofs.Theorem.{partly-ascending, wholly-ascending}
-use Rattle.elimination.proofs.Holding.{node-read, holds-table}
+use Rattle.elimination.specs.declared.Wholly.{Wholly}
+use Rattle.elimination.specs.Answers.{wholeNodes, writtenTo, unusedPlace, listRow, listOfRows, refusedPartly, partlyDone, rowOfPlace, stageAnswered, PartlyAnswered, refusedWhole, whollyDone, madeAnswered, WhollyAnswered}
+use Rattle.elimination.specs.Inside.{Ready, TooLarge, Holds, GivesNode, GivesStage, noRow, rowsIn, Listed, Stands, stageIn, reportedRow, ReportsStop, ReportsAnswer, PartlyOf, WhollyOf}
+use Rattle.elimination.proofs.Holding.{never, holds-table, holds-length}
+use Rattle.elimination.proofs.Makers.{node-read}
 use Rattle.elimination.proofs.RowList.{rows-count, rows-few, rows-more, row-low, list-count, rows-of-list}
+use Rattle.elimination.proofs.Composing.{given}
+use Rattle.elimination.proofs.States.{Left}
+use Rattle.elimination.proofs.Conversion.{stop-left}
 
--- ---- the list of the answer
+-- ---- the list that is returned
 
--- a row waits for no more states than there are
-waits-few : (width : ℕ) (test : ℕ → Bool) → howMany width test ≤ width
-unfolding howMany
-waits-few zero test = omega arith
-waits-few (suc width) test = go (test width) (waits-few width test)
-  where
-    go : (b : Bool) → howMany width test ≤ width → howMany width test + cond b 1 0 ≤ suc width
-    go true h = omega arith
-    go false h = omega arith
-
-pub size-few : (set : ℕ) → size stateWidth set ≤ 16
-unfolding size
-size-few set = waits-few 16 (λ i. has set i)
-
-pub record WaitLoop (table : Table) (list : Rows) (out : List ListRow) (i : ℕ) : Type 0 where
+pub record ListLoop (table : Table) (list : Rows) (out : List ListRow) (i : ℕ) : Type 0 where
   pub far : i ≤ list .count
   pub is : out ≡ filled listPlaces unusedPlace (map (listRow table) (take i (rowsIn list)))
 
 module _ (words : List ℕ) (count : ℕ) (ready : Ready words count) (list : Rows) (k : Listed list count) where
-  pub waits-start : WaitLoop (tableOf words count) list (replicate 80 unusedPlace) 0
-  waits-start = record { far = omega arith; is = filled-none listPlaces unusedPlace }
+  pub list-start : ListLoop (tableOf words count) list (replicate listPlaces unusedPlace) 0
+  list-start = record { far = omega arith; is = filled-none listPlaces unusedPlace }
 
-  module _ (out : List ListRow) (i : ℕ) (l : WaitLoop (tableOf words count) list out i) where
-    pub waits-end : list .count ≤ i → out ≡ filled listPlaces unusedPlace (map (listRow (tableOf words count)) (rowsIn list))
-    waits-end h =
+  module _ (out : List ListRow) (i : ℕ) (l : ListLoop (tableOf words count) list out i) where
+    pub list-end : list .count ≤ i → out ≡ listOfRows (stageIn words count list)
+    unfolding listOfRows
+    list-end h =
         let f = l .far in
-        l .is ∙ ap (λ (rows : List NodeRow). filled listPlaces unusedPlace (map (listRow (tableOf words count)) rows)) (lib.Seq.take-all i (rowsIn list) (omega (arith, rows-count k)))
+        l .is ∙ ap (λ (rows : List NodeRow). filled listPlaces unusedPlace (map (listRow (tableOf words count)) rows)) (take-all i (rowsIn list) (omega (arith, rows-count k)))
 
     module _ (h : i < list .count) where
-      pub waits-row : nodeWidth * suc (getD (list .places) i noPlace .node) ≤ length words
-      waits-row = let a = row-low k i h in let b = ready .held in omega arith
-
-      pub waits-next : (node waits : ℕ) → waits ≡ size stateWidth (readNode words node .opens) → node ≡ getD (list .places) i noPlace .node
-          → WaitLoop (tableOf words count) list (set out i (record { node = getD (list .places) i noPlace .node; target = getD (list .places) i noPlace .target; waits = waits })) (i + 1)
+      pub list-next : (row : ListRow) → row ≡ reportedRow (nodeIn words (getD (list .places) i noRow .node)) (getD (list .places) i noRow) → ListLoop (tableOf words count) list (set out i row) (i + 1)
       unfolding listRow waitsFor
-      waits-next node waits ew en =
-          let place = getD (list .places) i noPlace in
+      list-next row er =
+          let place = getD (list .places) i noRow in
           let table = tableOf words count in
           let few = rows-few k in
           let n = rows-count k in
           let lt = length-take-le i (rowsIn list) (omega arith) in
           let lm = length-map (take i (rowsIn list)) (listRow table) in
-          let w : waits ≡ waitsFor table (rowOf place) =
-          ew ∙ ap (λ (m : ℕ). size stateWidth (readNode words m .opens)) en ∙ ap (λ (x : Node). size stateWidth (x .opens)) (node-read words count ready (place .node) (row-low k i h)) in
           record {
             far = omega arith;
             is =
-                ap₂ (λ (x : List ListRow) (y : ℕ). set x i (record { node = place .node; target = place .target; waits = y })) (l .is) w
-                ∙ filled-set listPlaces unusedPlace (map (listRow table) (take i (rowsIn list))) (listRow table (rowOf place)) i (sym (lm ∙ lt)) (omega arith)
-                ∙ ap (filled listPlaces unusedPlace) (sym (map-append (listRow table) (take i (rowsIn list)) (rowOf place ∷ [])) ∙ ap (map (listRow table)) (sym (rows-more k i h)));
+                ap₂ (λ (x : List ListRow) (y : ListRow). set x i y) (l .is) (er ∙ ap (λ (node : Node). reportedRow node place) (node-read words count ready (place .node) (row-low k i h)))
+                ∙ filled-set listPlaces unusedPlace (map (listRow table) (take i (rowsIn list))) (listRow table place) i (sym (lm ∙ lt)) (omega arith)
+                ∙ ap (filled listPlaces unusedPlace) (sym (map-append (listRow table) (take i (rowsIn list)) (place ∷ [])) ∙ ap (map (listRow table)) (sym (rows-more k i h)));
           }
+
+-- ---- what is reported
+
+module _ (words : List ℕ) (staged : Staged) where
+  pub stop-short : staged .full ≡ true → ReportsStop words staged (allZero words) (refusedPartly (refusal 6))
+  stop-short f = record { short = λ _. (refl, refl); done = λ e. absurd (never (sym f ∙ e)) }
+
+  pub stop-done : staged .full ≡ false → Listed (staged .list) (staged .count) → (list : List ListRow) → list ≡ listOfRows (stageIn words (staged .count) (staged .list))
+      → ReportsStop words staged words (record { refusal = refusal 0; nodes = staged .count; rows = staged .list .count; list = list })
+  unfolding partlyDone
+  stop-done f k list el = record { short = λ e. absurd (never (sym e ∙ f)); done = λ _. (eq (sym (length-table words (staged .count))) (rows-count k) el, refl) }
+    where
+      eq : {a b c d : ℕ} {x y : List ListRow} → a ≡ b → c ≡ d → x ≡ y → _≡_ {A = Partly} (record { refusal = refusal 0; nodes = a; rows = c; list = x }) (record { refusal = refusal 0; nodes = b; rows = d; list = y })
+      eq p q r = λ i. record { refusal = refusal 0; nodes = p i; rows = q i; list = r i }
+
+module _ (words : List ℕ) (got : Got) where
+  pub answer-short : got .full ≡ true → ReportsAnswer words got (allZero words) (refusedWhole (refusal 6))
+  answer-short f = record { short = λ _. (refl, refl); done = λ e. absurd (never (sym f ∙ e)) }
+
+  pub answer-done : got .full ≡ false → ReportsAnswer words got words (record { refusal = refusal 0; nodes = got .count; answer = got .node })
+  unfolding whollyDone
+  answer-done f =
+      record { short = λ e. absurd (never (sym e ∙ f)); done = λ _. (ap (λ (n : ℕ). record { refusal = refusal 0; nodes = n; answer = got .node }) (sym (length-table words (got .count))), refl) }
 
 -- ---- room
 
@@ -98,9 +112,9 @@ whole-fits : (words : List ℕ) (table : Table) → wholeNodes words < length ta
 unfolding wholeNodes
 whole-fits words table h l = omega arith
 
--- ---- what stands in the words and in the answer
+-- ---- what stands in the words and in what is returned
 
-pub rows-back : (table : Table) (rows : List NodeRow) → map rowOfPlace (map (listRow table) rows) ≡ rows
+rows-back : (table : Table) (rows : List NodeRow) → map rowOfPlace (map (listRow table) rows) ≡ rows
 unfolding listRow
 rows-back table [] = refl
 rows-back table (row ∷ rows) = ap (row ∷_) (rows-back table rows)
@@ -115,168 +129,155 @@ pub answered-made : (made : Made) (rest : List ℕ) → madeAnswered (wordsOf (m
 unfolding madeAnswered whollyDone
 answered-made made rest = ap (λ (t : Table). record { table = t; node = made .node }) (table-words (made .table) rest)
 
--- ---- the file
+-- ---- a file holds one automaton, or has a fault
 
-good-placed : (held : Held) → Valid held → Good (placed held)
-good-placed held v = let e = held-placed held v in record { is = sym (ap placed e); valid = subst Valid (sym e) v }
+module _ {v : Verdict} {held : Held} (e : v ≡ holds held) where
+  no-fault : {number offset : ℕ} → v ≡ fault number offset → ⊥
+  no-fault f = let z : _≡_ {A = ℕ} 0 1 = cc in omega arith
 
-module _ (file : List ℕ) (reading : Reading) (er : reading ≡ readAnswer file) where
-  pub read-faulty : (number offset : ℕ) → verdict file ≡ fault number offset → reading .refusal .number ≡ number
-  unfolding readAnswer readingOf
-  read-faulty number offset e = ap (λ (r : Reading). r .refusal .number) er ∙ ap (λ (v : Verdict). readingOf v .refusal .number) e
+  one : {other : Held} → v ≡ holds other → held ≡ other
+  one f = cc
 
-  pub read-holds : (held : Held) → verdict file ≡ holds held → reading .refusal .number ≡ 0
-  unfolding readAnswer readingOf
-  read-holds held e = ap (λ (r : Reading). r .refusal .number) er ∙ ap (λ (v : Verdict). readingOf v .refusal .number) e
+-- ---- `convert_partly`
 
-  pub read-value : (held : Held) → verdict file ≡ holds held → reading .automaton ≡ placed held
-  unfolding readAnswer readingOf
-  read-value held e = ap (λ (r : Reading). r .automaton) er ∙ ap (λ (v : Verdict). readingOf v .automaton) e
+-- the file is refused
+pub partly-refused : (file : List ℕ) (reading : Reading) → reading ≡ readAnswer file → (k : ℕ) (before : List ℕ) → (reading .refusal .number ≡ 0 → ⊥) → PartlyAnswered file k before before (refusedPartly (reading .refusal))
+partly-refused file reading er k before n =
+    record {
+      faulty = λ number offset e. (ap refusedPartly (read-refused file reading er number offset e), refl);
+      too-far = λ held e h. absurd (none held e);
+      short = λ held e h l. absurd (none held e);
+      done = λ held e h l. absurd (none held e);
+      means = λ held e h l. absurd (none held e);
+    }
+  where
+    none : (held : Held) → verdict file ≡ holds held → ⊥
+    none held e = n (ap (λ (r : Refusal). r .number) (read-done file reading er held e))
 
-  same : (held : Held) → verdict file ≡ holds held → heldBy (reading .automaton) ≡ held
-  same held e = ap heldBy (read-value held e) ∙ held-placed held (verdict-valid file held e)
+-- it holds what the value says
+pub partly-held : (file : List ℕ) (reading : Reading) → reading ≡ readAnswer file → (k : ℕ) (before after : List ℕ) (r : Partly) → reading .refusal .number ≡ 0 → PartlyOf (heldBy (reading .automaton)) k before after r
+    → PartlyAnswered file k before after r
+partly-held file reading er k before after r z p = let h = read-held file reading er z in p file (h .in-file ∙ ap holds (sym (h .said)))
 
-  states-same : (held : Held) → verdict file ≡ holds held → reading .automaton .states ≡ held .states
-  unfolding placed
-  states-same held e = ap (λ (a : Automaton). a .states) (read-value held e)
-
-  pub read-good : reading .refusal .number ≡ 0 → Good (reading .automaton)
-  read-good z = go (verdict file) refl
+module _ (held : Held) (k : ℕ) (before : List ℕ) where
+  pub partly-too-far : held .states < k → PartlyOf held k before before (refusedPartly (refusal 9))
+  partly-too-far f file e =
+      record {
+        faulty = λ number offset d. absurd (no-fault e d);
+        too-far = λ other o h. (refl, refl);
+        short = λ other o h l. absurd (far other o h);
+        done = λ other o h l. absurd (far other o h);
+        means = λ other o h l. absurd (far other o h);
+      }
     where
-      go : (v : Verdict) → verdict file ≡ v → Good (reading .automaton)
-      go (holds held) e = rw (read-value held e) (good-placed held (verdict-valid file held e))
-      go (fault number offset) e = absurd (fault-some file number offset e (sym (read-faulty number offset e) ∙ z))
+      far : (other : Held) → verdict file ≡ holds other → k ≤ other .states → ⊥
+      far other o h = omega (arith, ap (λ (x : Held). x .states) (one e o))
 
-  -- ---- `convert_partly`
+  module _ (within : k ≤ held .states) (w1 : List ℕ) (staged : Staged) (g : GivesStage before (stageAfter k held) w1 staged) (after : List ℕ) (r : Partly) (x : ReportsStop w1 staged after r) where
+    not-far : {v : Verdict} → v ≡ holds held → (other : Held) → v ≡ holds other → other .states < k → ⊥
+    not-far e other o h = omega (arith, ap (λ (x : Held). x .states) (one e o))
 
-  module _ (k : ℕ) (before : List ℕ) where
-    pub partly-faulty : (reading .refusal .number ≡ 0 → ⊥) → PartlyAnswered file k before before (refusedPartly (reading .refusal .number))
-    partly-faulty n =
-        record {
-          faulty = λ number offset e. (ap refusedPartly (read-faulty number offset e), refl);
-          too-far = λ held e h. absurd (n (read-holds held e));
-          short = λ held e h l. absurd (n (read-holds held e));
-          done = λ held e h l. absurd (n (read-holds held e));
-          means = λ held e h l. absurd (n (read-holds held e));
-        }
+    module _ (f : staged .full ≡ true) (el : length w1 ≡ length before) where
+      over : Valid held → length (stageAfter k held .table) ≤ wholeNodes before → ⊥
+      over v l =
+          let few = partly-ascending held v k within .few in
+          g .full f (omega (arith, bound-file held v)) (fits-whole before (stageAfter k held .table) l)
 
-    module _ (z : reading .refusal .number ≡ 0) where
-      no-fault : (number offset : ℕ) → verdict file ≡ fault number offset → ⊥
-      no-fault number offset e = fault-some file number offset e (sym (read-faulty number offset e) ∙ z)
-
-      pub partly-too-far : reading .automaton .states < k → PartlyAnswered file k before before (refusedPartly 9)
-      partly-too-far f =
+      partly-short : PartlyOf held k before after r
+      partly-short file e =
           record {
-            faulty = λ number offset e. absurd (no-fault number offset e);
-            too-far = λ held e h. (refl, refl);
-            short = λ held e h l. absurd (omega (arith, states-same held e));
-            done = λ held e h l. absurd (omega (arith, states-same held e));
-            means = λ held e h l. absurd (omega (arith, states-same held e));
+            faulty = λ number offset d. absurd (no-fault e d);
+            too-far = λ other o h. absurd (not-far e other o h);
+            short = λ other o h l. (x .short f .0, x .short f .1 ∙ ap (λ (n : ℕ). replicate n 0) el);
+            done = λ other o h l. absurd (over (verdict-valid file held e) (rw (← (one e o)) at l));
+            means = λ other o h l. absurd (over (verdict-valid file held e) (rw (← (one e o)) at l));
           }
 
-      module _ (within : k ≤ reading .automaton .states) (after : List ℕ) (m : Moved) (g : Moves before (stageAfter k (heldBy (reading .automaton))) after m) where
-        not-far : (held : Held) → verdict file ≡ holds held → held .states < k → ⊥
-        not-far held e h = omega (arith, states-same held e)
+    module _ (f : staged .full ≡ false) where
+      returned : Valid held → r ≡ partlyDone (stageAfter k held)
+      returned v = x .done f .0 ∙ ap partlyDone (stop-left held v before w1 k within staged g f .is)
 
-        moved : (held : Held) → verdict file ≡ holds held → Moves before (stageAfter k held) after m
-        moved held e = subst (λ (h : Held). Moves before (stageAfter k h) after m) (same held e) g
+      written : after ≡ writtenTo before (stageAfter k held .table)
+      written = x .done f .1 ∙ g .holds f .words
 
-        pub partly-short : m .full ≡ true → (zeroed : List ℕ) → zeroed ≡ replicate (length after) 0 → length after ≡ length before → PartlyAnswered file k before zeroed (refusedPartly 6)
-        unfolding allZero
-        partly-short f zeroed ez el =
-            record {
-              faulty = λ number offset e. absurd (no-fault number offset e);
-              too-far = λ held e h. absurd (not-far held e h);
-              short = λ held e h l. (refl, ez ∙ ap (λ (n : ℕ). replicate n 0) el);
-              done = λ held e h l. absurd (over held e h l);
-              means = λ held e h l. absurd (over held e h l);
-            }
-          where
-            over : (held : Held) → verdict file ≡ holds held → k ≤ held .states → length (stageAfter k held .table) ≤ wholeNodes before → ⊥
-            over held e h l =
-                let v = verdict-valid file held e in
-                let few = partly-ascending held v k h .few in
-                moved held e .full f (omega (arith, bound-file held v)) (fits-whole before (stageAfter k held .table) l)
-
-        module _ (f : m .full ≡ false) (list : List ListRow) (el : list ≡ filled listPlaces unusedPlace (map (listRow (tableOf after (m .count))) (rowsIn (m .list)))) where
-          done-is : (held : Held) → verdict file ≡ holds held → record { refusal = refusal 0; nodes = m .count; rows = m .list .count; list = list } ≡ partlyDone (stageAfter k held)
-          unfolding partlyDone listOfRows
-          done-is held e =
-              let x = moved held e in
-              let stage = stageAfter k held in
-              let t : tableOf after (m .count) ≡ stage .table = ap (tableOf after) (x .counted f) ∙ holds-table (x .holds f) in
-              let r : rowsIn (m .list) ≡ stage .rows = ap rowsIn (x .listed f) ∙ rows-of-list (stage .rows) in
-              let n : m .list .count ≡ length (stage .rows) = ap (λ (y : Rows). y .count) (x .listed f) ∙ list-count (stage .rows) in
-              partly-eq (x .counted f) n (el ∙ ap₂ (λ (u : Table) (rows : List NodeRow). filled listPlaces unusedPlace (map (listRow u) rows)) t r)
-            where
-              partly-eq : {a b c d : ℕ} {x y : List ListRow} → a ≡ b → c ≡ d → x ≡ y
-                  → _≡_ {A = Partly} (record { refusal = refusal 0; nodes = a; rows = c; list = x }) (record { refusal = refusal 0; nodes = b; rows = d; list = y })
-              partly-eq p q r = λ i. record { refusal = refusal 0; nodes = p i; rows = q i; list = r i }
-
-          pub partly-done : PartlyAnswered file k before after (record { refusal = refusal 0; nodes = m .count; rows = m .list .count; list = list })
-          unfolding writtenTo
-          partly-done =
-              record {
-                faulty = λ number offset e. absurd (no-fault number offset e);
-                too-far = λ held e h. absurd (not-far held e h);
-                short = λ held e h l. absurd (whole-fits before (stageAfter k held .table) l (moved held e .holds f .held));
-                done = λ held e h l. (done-is held e, moved held e .holds f .words);
-                means = λ held e h l.
-                    subst (PartlyConverted held (λ q. q < k))
-                    (sym (ap₂ stageAnswered (moved held e .holds f .words) (done-is held e) ∙ answered (stageAfter k held) (drop (nodeWidth * length (stageAfter k held .table)) before)))
-                    (partly-ascending held (verdict-valid file held e) k h);
-              }
-
-  -- ---- `convert`
-
-  module _ (before : List ℕ) where
-    pub whole-faulty : (reading .refusal .number ≡ 0 → ⊥) → WhollyAnswered file before before (refusedWhole (reading .refusal .number))
-    whole-faulty n =
-        record {
-          faulty = λ number offset e. (ap refusedWhole (read-faulty number offset e), refl);
-          short = λ held e l. absurd (n (read-holds held e));
-          done = λ held e l. absurd (n (read-holds held e));
-          means = λ held e l. absurd (n (read-holds held e));
-        }
-
-    module _ (z : reading .refusal .number ≡ 0) (after : List ℕ) (got : Got) (g : Gives before (converted (heldBy (reading .automaton))) after got) where
-      fault-none : (number offset : ℕ) → verdict file ≡ fault number offset → ⊥
-      fault-none number offset e = fault-some file number offset e (sym (read-faulty number offset e) ∙ z)
-
-      gives : (held : Held) → verdict file ≡ holds held → Gives before (converted held) after got
-      gives held e = subst (λ (h : Held). Gives before (converted h) after got) (same held e) g
-
-      pub whole-short : got .full ≡ true → (zeroed : List ℕ) → zeroed ≡ replicate (length after) 0 → length after ≡ length before → WhollyAnswered file before zeroed (refusedWhole 6)
-      unfolding allZero
-      whole-short f zeroed ez el =
-          record {
-            faulty = λ number offset e. absurd (fault-none number offset e);
-            short = λ held e l. (refl, ez ∙ ap (λ (n : ℕ). replicate n 0) el);
-            done = λ held e l. absurd (over held e l);
-            means = λ held e l. absurd (over held e l);
-          }
-        where
-          over : (held : Held) → verdict file ≡ holds held → length (converted held .table) ≤ wholeNodes before → ⊥
-          over held e l =
-              let v = verdict-valid file held e in
-              let few = wholly-ascending held v .few in
-              gives held e .full f (omega (arith, bound-file held v)) (fits-whole before (converted held .table) l)
-
-      whole-is : got .full ≡ false → (answer : ℕ) → answer ≡ got .node → (held : Held) → verdict file ≡ holds held → record { refusal = refusal 0; nodes = got .count; answer = answer } ≡ whollyDone (converted held)
-      unfolding whollyDone
-      whole-is f answer ea held e =
-          let x = gives held e in
-          ap₂ (λ (a b : ℕ). record { refusal = refusal 0; nodes = a; answer = b }) (x .counted f) (ea ∙ x .node f)
-
-      pub whole-done : got .full ≡ false → (answer : ℕ) → answer ≡ got .node → WhollyAnswered file before after (record { refusal = refusal 0; nodes = got .count; answer = answer })
+      partly-done : PartlyOf held k before after r
       unfolding writtenTo
-      whole-done f answer ea =
+      partly-done file e =
           record {
-            faulty = λ number offset e. absurd (fault-none number offset e);
-            short = λ held e l. absurd (whole-fits before (converted held .table) l (gives held e .holds f .held));
-            done = λ held e l. (whole-is f answer ea held e, gives held e .holds f .words);
-            means = λ held e l.
-                subst (WhollyConverted held)
-                (sym (ap₂ madeAnswered (gives held e .holds f .words) (whole-is f answer ea held e) ∙ answered-made (converted held) (drop (nodeWidth * length (converted held .table)) before)))
-                (wholly-ascending held (verdict-valid file held e));
+            faulty = λ number offset d. absurd (no-fault e d);
+            too-far = λ other o h. absurd (not-far e other o h);
+            short = λ other o h l. absurd (whole-fits before (stageAfter k held .table) (rw (← (one e o)) at l) (g .holds f .roomy));
+            done = λ other o h l. rw (← (one e o)) (returned (verdict-valid file held e), written);
+            means = λ other o h l.
+                rw (← (one e o))
+                (subst (PartlyConverted held (λ q. q < k)) (sym (ap₂ stageAnswered written (returned (verdict-valid file held e)) ∙ answered (stageAfter k held) (drop (nodeWidth * length (stageAfter k held .table)) before)))
+                (partly-ascending held (verdict-valid file held e) k within));
           }
+
+    pub partly-stopped : length w1 ≡ length before → PartlyOf held k before after r
+    partly-stopped el = go (staged .full) refl
+      where
+        go : (b : Bool) → staged .full ≡ b → PartlyOf held k before after r
+        go true f = partly-short f el
+        go false f = partly-done f
+
+-- ---- `convert`
+
+pub wholly-refused : (file : List ℕ) (reading : Reading) → reading ≡ readAnswer file → (before : List ℕ) → (reading .refusal .number ≡ 0 → ⊥) → WhollyAnswered file before before (refusedWhole (reading .refusal))
+wholly-refused file reading er before n =
+    record {
+      faulty = λ number offset e. (ap refusedWhole (read-refused file reading er number offset e), refl);
+      short = λ held e l. absurd (none held e);
+      done = λ held e l. absurd (none held e);
+      means = λ held e l. absurd (none held e);
+    }
+  where
+    none : (held : Held) → verdict file ≡ holds held → ⊥
+    none held e = n (ap (λ (r : Refusal). r .number) (read-done file reading er held e))
+
+pub wholly-held : (file : List ℕ) (reading : Reading) → reading ≡ readAnswer file → (before after : List ℕ) (r : Wholly) → reading .refusal .number ≡ 0 → WhollyOf (heldBy (reading .automaton)) before after r
+    → WhollyAnswered file before after r
+wholly-held file reading er before after r z p = let h = read-held file reading er z in p file (h .in-file ∙ ap holds (sym (h .said)))
+
+module _ (held : Held) (before w1 : List ℕ) (got : Got) (g : GivesNode before (converted held) w1 got) (after : List ℕ) (r : Wholly) (x : ReportsAnswer w1 got after r) where
+  module _ (f : got .full ≡ true) (el : length w1 ≡ length before) where
+    whole-over : Valid held → length (converted held .table) ≤ wholeNodes before → ⊥
+    whole-over v l =
+        let few = wholly-ascending held v .few in
+        g .full f (omega (arith, bound-file held v)) (fits-whole before (converted held .table) l)
+
+    wholly-short : WhollyOf held before after r
+    wholly-short file e =
+        record {
+          faulty = λ number offset d. absurd (no-fault e d);
+          short = λ other o l. (x .short f .0, x .short f .1 ∙ ap (λ (n : ℕ). replicate n 0) el);
+          done = λ other o l. absurd (whole-over (verdict-valid file held e) (rw (← (one e o)) at l));
+          means = λ other o l. absurd (whole-over (verdict-valid file held e) (rw (← (one e o)) at l));
+        }
+
+  module _ (f : got .full ≡ false) where
+    whole-returned : r ≡ whollyDone (converted held)
+    whole-returned = let y = given g f in x .done f .0 ∙ ap₂ (λ (t : Table) (n : ℕ). whollyDone (record { table = t; node = n })) (y .table) (y .node)
+
+    whole-written : after ≡ writtenTo before (converted held .table)
+    whole-written = x .done f .1 ∙ g .holds f .words
+
+    wholly-done : WhollyOf held before after r
+    unfolding writtenTo
+    wholly-done file e =
+        record {
+          faulty = λ number offset d. absurd (no-fault e d);
+          short = λ other o l. absurd (whole-fits before (converted held .table) (rw (← (one e o)) at l) (g .holds f .roomy));
+          done = λ other o l. rw (← (one e o)) (whole-returned, whole-written);
+          means = λ other o l.
+              rw (← (one e o))
+              (subst (WhollyConverted held) (sym (ap₂ madeAnswered whole-written whole-returned ∙ answered-made (converted held) (drop (nodeWidth * length (converted held .table)) before)))
+              (wholly-ascending held (verdict-valid file held e)));
+        }
+
+  pub wholly-ended : length w1 ≡ length before → WhollyOf held before after r
+  wholly-ended el = go (got .full) refl
+    where
+      go : (b : Bool) → got .full ≡ b → WhollyOf held before after r
+      go true f = wholly-short f el
+      go false f = wholly-done f

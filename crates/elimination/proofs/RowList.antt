@@ -1,89 +1,110 @@
 -- The row list as a value: its rows, one after the other.
-use Prim.Native.Nat.{ℕ, _+_, _<_, _≤_}
+use Prim.Native.Nat.{ℕ, _+_, _-_, _<_, _≤_}
 use native.Mathlib.Omega.{arith}
 use native.Mathlib.Numerals.{add-one}
+use native.Mathlib.Nat.{add-zero}
 use mathlib.Core.Path.{_≡_, refl, sym, _∙_, ap, ap₂, subst}
-use mathlib.Core.List.{List, [], _∷_, _++_, map, map-append}
-use lib.ListN.{length, getD, set, take, drop, length-map, length-append, List·getD-map, drop-of-length-le}
-use lib.Seq.{drop-cons, getD-take, take-suc}
-use Rattle.automaton.specs.Held.{All}
-use Rattle.automaton.specs.Answers.{filled}
-use Rattle.automaton.proofs.Places.{filled-take, filled-set}
-use Rattle.elimination.specs.declared.taking.Place.{Place}
-use Rattle.elimination.specs.declared.taking.Rows.{Rows}
-use Rattle.elimination.specs.Stages.{NodeRow}
-use Rattle.elimination.specs.Inside.{places, noPlace, rowOf, placeOf, rowsIn, listOf, Listed}
-use Rattle.trees.proofs.Lists.{all-at}
+use mathlib.Core.List.{List, [], _∷_, _++_, append-nil}
+use lib.ListN.{length, getD, set, take, drop, replicate, length-append, drop-of-length-le, getD-replicate}
+use lib.Seq.{drop-cons, getD-take, take-suc, getD-append-add, set-getD}
+use Rattle.ground.specs.Lists.{All, filled}
+use Rattle.ground.proofs.Places.{filled-take, filled-set}
+use Rattle.ground.proofs.Lists.{all-at, all-map}
+use Rattle.expressions.specs.Words.{tableOf}
+use Rattle.expressions.proofs.Words.{length-table}
+use Rattle.theory.specs.declared.NodeRow.{NodeRow}
+use Rattle.theory.specs.RowLists.{listPlaces}
+use Rattle.theory.proofs.MirrorRows.{LowRows}
+use Rattle.elimination.specs.declared.rows.Rows.{Rows}
+use Rattle.elimination.specs.Inside.{noRow, rowsIn, listOf, Listed}
 
 -- ---- a list of rows as a value, and back
 
-back : (rows : List NodeRow) → map rowOf (map placeOf rows) ≡ rows
-back [] = refl
-back (row ∷ rows) = ap (row ∷_) (back rows)
-
 pub rows-of-list : (rows : List NodeRow) → rowsIn (listOf rows) ≡ rows
 unfolding rowsIn listOf
-rows-of-list rows = ap (map rowOf) (filled-take places noPlace (map placeOf rows) (length rows) (sym (length-map rows placeOf))) ∙ back rows
+rows-of-list rows = filled-take listPlaces noRow rows (length rows) refl
 
 pub list-count : (rows : List NodeRow) → listOf rows .count ≡ length rows
 unfolding listOf
 list-count rows = refl
 
-pub listed-of : (rows : List NodeRow) (count : ℕ) → length rows ≤ places → All (λ row. row .node < count) rows → Listed (listOf rows) count
+pub listed-of : (rows : List NodeRow) (count : ℕ) → length rows ≤ listPlaces → All (λ row. row .node < count) rows → Listed (listOf rows) count
 listed-of rows count few low =
     let e = rows-of-list rows in
     record { few = rw e few; is = sym (ap listOf e); low = subst (λ (l : List NodeRow). All (λ row. row .node < count) l) (sym e) low }
 
 -- ---- its rows one after the other
 
-here : (list : Rows) (i : ℕ) → i < list .count → getD (rowsIn list) i (rowOf noPlace) ≡ rowOf (getD (list .places) i noPlace)
+here : (list : Rows) (i : ℕ) → i < list .count → getD (rowsIn list) i noRow ≡ getD (list .places) i noRow
 unfolding rowsIn
-here list i h = List·getD-map rowOf (take (list .count) (list .places)) i noPlace ∙ ap rowOf (getD-take (list .count) (list .places) i noPlace h)
+here list i h = getD-take (list .count) (list .places) i noRow h
 
 module _ {list : Rows} {count : ℕ} (k : Listed list count) where
   pub rows-count : list .count ≡ length (rowsIn list)
   unfolding listOf
   rows-count = ap (λ (l : Rows). l .count) (k .is)
 
-  pub rows-few : list .count ≤ places
+  pub rows-few : list .count ≤ listPlaces
   rows-few = let f = k .few in omega (arith, rows-count)
 
-  pub row-next : (i : ℕ) → i < list .count → drop i (rowsIn list) ≡ rowOf (getD (list .places) i noPlace) ∷ drop (i + 1) (rowsIn list)
+  pub row-next : (i : ℕ) → i < list .count → drop i (rowsIn list) ≡ getD (list .places) i noRow ∷ drop (i + 1) (rowsIn list)
   row-next i h =
       let e = rows-count in
-      drop-cons (rowsIn list) i (rowOf noPlace) (omega arith) ∙ ap₂ _∷_ (here list i h) (ap (λ (n : ℕ). drop n (rowsIn list)) (sym (add-one i)))
+      drop-cons (rowsIn list) i noRow (omega arith) ∙ ap₂ _∷_ (here list i h) (ap (λ (n : ℕ). drop n (rowsIn list)) (sym (add-one i)))
 
-  pub row-low : (i : ℕ) → i < list .count → getD (list .places) i noPlace .node < count
+  pub row-low : (i : ℕ) → i < list .count → getD (list .places) i noRow .node < count
   row-low i h =
       let e = rows-count in
-      subst (λ (row : NodeRow). row .node < count) (here list i h) (all-at (λ row. row .node < count) (rowsIn list) (k .low) i (rowOf noPlace) (omega arith))
+      subst (λ (row : NodeRow). row .node < count) (here list i h) (all-at (λ row. row .node < count) (rowsIn list) (k .low) i noRow (omega arith))
 
-  pub rows-more : (i : ℕ) → i < list .count → take (i + 1) (rowsIn list) ≡ take i (rowsIn list) ++ (rowOf (getD (list .places) i noPlace) ∷ [])
+  pub rows-more : (i : ℕ) → i < list .count → take (i + 1) (rowsIn list) ≡ take i (rowsIn list) ++ (getD (list .places) i noRow ∷ [])
   rows-more i h =
       let e = rows-count in
-      ap (λ (n : ℕ). take n (rowsIn list)) (add-one i) ∙ take-suc (rowsIn list) i (rowOf noPlace) (omega arith) ∙ ap (λ (row : NodeRow). take i (rowsIn list) ++ (row ∷ [])) (here list i h)
+      ap (λ (n : ℕ). take n (rowsIn list)) (add-one i) ∙ take-suc (rowsIn list) i noRow (omega arith) ∙ ap (λ (row : NodeRow). take i (rowsIn list) ++ (row ∷ [])) (here list i h)
 
   pub rows-end : (i : ℕ) → list .count ≤ i → drop i (rowsIn list) ≡ []
   rows-end i h = let l : length (rowsIn list) ≤ i = omega (arith, rows-count) in drop-of-length-le (rowsIn list) l
 
--- ---- one row more
+  -- a list is a list of a larger table too
+  pub listed-on : {more : ℕ} → count ≤ more → Listed list more
+  listed-on l = record { few = k .few; is = k .is; low = all-map (rowsIn list) (λ row h. omega arith) (k .low) }
 
-map-snoc : (rows : List NodeRow) (row : NodeRow) → map placeOf (rows ++ (row ∷ [])) ≡ map placeOf rows ++ (placeOf row ∷ [])
-map-snoc rows row = map-append placeOf rows (row ∷ [])
+  pub listed-low : (words : List ℕ) → LowRows (tableOf words count) (rowsIn list)
+  listed-low words = all-map (rowsIn list) (λ row h. omega (arith, length-table words count)) (k .low)
 
-rows-eq : {n n′ : ℕ} {a a′ : List Place} → n ≡ n′ → a ≡ a′ → _≡_ {A = Rows} (record { count = n; places = a }) (record { count = n′; places = a′ })
+-- ---- one row more, or none
+
+rows-eq : {n n′ : ℕ} {a a′ : List NodeRow} → n ≡ n′ → a ≡ a′ → _≡_ {A = Rows} (record { count = n; places = a }) (record { count = n′; places = a′ })
 rows-eq e f = λ i. record { count = e i; places = f i }
 
-pub list-none : record { count = 0; places = lib.ListN.replicate 80 noPlace } ≡ listOf []
+pub list-none : record { count = 0; places = replicate listPlaces noRow } ≡ listOf []
 unfolding listOf filled
 list-none = refl
 
-pub list-more : (rows : List NodeRow) (kept : ℕ) (array : List Place) (row : NodeRow) → record { count = kept; places = array } ≡ listOf rows → length rows < places
-    → record { count = kept + 1; places = set array kept (placeOf row) } ≡ listOf (rows ++ (row ∷ []))
-unfolding listOf
-list-more rows kept array row e h =
-    let n : kept ≡ length rows = ap (λ (l : Rows). l .count) e in
-    let a : array ≡ filled places noPlace (map placeOf rows) = ap (λ (l : Rows). l .places) e in
-    let l = length-map rows placeOf in
-    rows-eq (omega (arith, length-append rows (row ∷ [])))
-    (ap (λ (x : List Place). set x kept (placeOf row)) a ∙ filled-set places noPlace (map placeOf rows) (placeOf row) kept (n ∙ sym l) (omega arith) ∙ ap (filled places noPlace) (sym (map-snoc rows row)))
+module _ (rows : List NodeRow) (kept : ℕ) (array : List NodeRow) (e : record { count = kept; places = array } ≡ listOf rows) (few : length rows < listPlaces) where
+  kept-is : kept ≡ length rows
+  unfolding listOf
+  kept-is = ap (λ (l : Rows). l .count) e
+
+  array-is : array ≡ filled listPlaces noRow rows
+  unfolding listOf
+  array-is = ap (λ (l : Rows). l .places) e
+
+  pub list-more : (row : NodeRow) → record { count = kept + 1; places = set array kept row } ≡ listOf (rows ++ (row ∷ []))
+  unfolding listOf
+  list-more row =
+      let n = kept-is in
+      rows-eq (omega (arith, length-append rows (row ∷ []))) (ap (λ (x : List NodeRow). set x kept row) array-is ∙ filled-set listPlaces noRow rows row kept n few)
+
+  unused-next : getD array kept noRow ≡ noRow
+  unfolding filled
+  unused-next =
+      let n = kept-is in
+      let m = listPlaces - length rows in
+      let z : kept ≡ length rows + 0 = omega arith in
+      ap₂ (λ (a : List NodeRow) (j : ℕ). getD a j noRow) array-is z ∙ getD-append-add rows (replicate m noRow) 0 noRow ∙ getD-replicate m 0 noRow noRow (omega arith)
+
+  -- an unused place left unused
+  pub list-same : record { count = kept + 0; places = set array kept noRow } ≡ listOf (rows ++ [])
+  list-same =
+      rows-eq (add-zero kept) (ap (λ (x : NodeRow). set array kept x) (sym unused-next) ∙ set-getD array kept noRow) ∙ e ∙ ap listOf (sym (append-nil rows))

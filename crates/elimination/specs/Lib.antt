@@ -1,6 +1,4 @@
-pub mod RowLists
-pub mod Acceptance
-pub mod Stages
-pub mod Theorem
-pub mod Inside
+-- what a reader must believe
 pub mod Answers
+-- for the contracts of private functions
+pub mod Inside

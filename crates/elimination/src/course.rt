@@ -1,63 +1,59 @@
 // The course of a conversion: the start, the states, the join.
-ghost use Prim.Native.Nat.{_≤_};
+ghost use mathlib.Core.Path.{_≡_};
+ghost use mathlib.Core.Bool.{false};
+ghost use Prim.Native.Nat.{_<_, _≤_};
+ghost use Rattle.sets.specs.Members.{stateWidth};
 ghost use Rattle.automaton.specs.Answers.{heldBy};
-ghost use Rattle.elimination.specs.Stages.{start, stageAfter, converted};
-ghost use Rattle.elimination.specs.Inside.{Gives, Moves, Good};
-use crate::maker;
+ghost use Rattle.automaton.specs.Handed.{Handed};
+ghost use Rattle.theory.specs.RowLists.{ascending};
+ghost use Rattle.theory.specs.Stages.{eliminatedStages, stageAfter, converted};
+ghost use Rattle.elimination.specs.Inside.{Stands, GivesNode, GivesStage, stageIn};
 use crate::maker::Got;
-use crate::opening;
-use crate::taking;
-use crate::taking::Moved;
+use crate::rows;
+use crate::rows::Staged;
+use crate::start;
+use crate::step;
 use automaton::Automaton;
 
-// The empty node, the holes, the nodes of the file's rows, and the list.
-fn begin(words: &mut [u32], value: Automaton) -> Moved
-    requires { ⌜ Good value ⌝ }
-    ensures { λ r. ⌜ Moves (now (words .entry)) (start (heldBy value)) (now (words .exit)) r ⌝ }
+// The first k states taken out, the lowest first.
+fn take_first(words: &mut [u32], begun: Staged, k: u32) -> Staged
+    requires { ⌜ Stands (now words) begun ⌝ }
+    requires { ⌜ begun .full ≡ false ⌝ }
+    requires { ⌜ k ≤ stateWidth ⌝ }
+    requires { ⌜ k < begun .count ⌝ }
+    ensures { λ r. ⌜ GivesStage (now (words .entry)) (eliminatedStages (ascending k) (stageIn (now (words .entry)) (begun .count) (begun .list))) (now (words .exit)) r ⌝ }
 {
-    let n = taking::wide_target(value.states);
-    let first = maker::new_node(words, 0, 0, 0, 0, 0, 0);
-    if first.full {
-        return taking::no_list();
+    let mut staged = begun;
+    let mut q: u32 = 0;
+    while q < k {
+        staged = step::take_out(words, staged, q);
+        if staged.full {
+            return staged;
+        }
+        q += 1;
     }
-    let holes = opening::put_holes(words, n);
-    if holes.full {
-        return taking::no_list();
-    }
-    let rules = opening::put_rules(words, holes.count, value);
-    if rules.full {
-        return rules;
-    }
-    let rows = rules.list;
-    let finals = value.finals;
-    let list = opening::put_finals(rows, n, finals);
-    Moved {
-        full: false,
-        count: rules.count,
-        list,
-    }
+    staged
 }
 
-// The list after the first k states.
-pub fn partly(words: &mut [u32], value: Automaton, k: u32) -> Moved
-    requires { ⌜ Good value ⌝ }
+// The table and the list after the first k states.
+pub fn partly(words: &mut [u32], value: Automaton, k: u32) -> Staged
+    requires { ⌜ Handed value ⌝ }
     requires { ⌜ k ≤ value .states ⌝ }
-    ensures { λ r. ⌜ Moves (now (words .entry)) (stageAfter k (heldBy value)) (now (words .exit)) r ⌝ }
+    ensures { λ r. ⌜ GivesStage (now (words .entry)) (stageAfter k (heldBy value)) (now (words .exit)) r ⌝ }
 {
-    let begun = begin(words, value);
+    let begun = start::begin(words, value);
     if begun.full {
         return begun;
     }
-    let list = begun.list;
-    taking::take_first(words, begun.count, list, k)
+    take_first(words, begun, k)
 }
 
-// All states, and the join.
+// All states, and the join. The rows that are left go to the added final state, which is open in none: they are its incoming rows.
 pub fn wholly(words: &mut [u32], value: Automaton) -> Got
-    requires { ⌜ Good value ⌝ }
-    ensures { λ r. ⌜ Gives (now (words .entry)) (converted (heldBy value)) (now (words .exit)) r ⌝ }
+    requires { ⌜ Handed value ⌝ }
+    ensures { λ r. ⌜ GivesNode (now (words .entry)) (converted (heldBy value)) (now (words .exit)) r ⌝ }
 {
-    let last = partly(words, value, taking::wide_target(value.states));
+    let last = partly(words, value, ground::wide(value.states));
     if last.full {
         return Got {
             full: true,
@@ -66,5 +62,11 @@ pub fn wholly(words: &mut [u32], value: Automaton) -> Got
         };
     }
     let list = last.list;
-    taking::join_all(words, last.count, list)
+    step::join_rows(
+        words,
+        last.count,
+        list,
+        ground::wide(rows::FINAL_TARGET),
+        false,
+    )
 }

@@ -1,13 +1,17 @@
-// The conversion of document 01: states taken out of a row list one after the other, and the expressions that they leave.
-ghost use Rattle.elimination.specs.Answers.{PartlyAnswered, WhollyAnswered, refusedPartly, refusedWhole};
-ghost use mathlib.Core.Path.{_≡_};
+// The conversion: the states of a file's automaton taken out one after the other, and the expression that is left.
+ghost use Rattle.automaton.specs.Answers.{heldBy};
+ghost use Rattle.automaton.specs.Handed.{Handed};
+ghost use Rattle.elimination.specs.Answers.{PartlyAnswered, WhollyAnswered};
+ghost use Rattle.elimination.specs.Inside.{PartlyOf, WhollyOf};
+use automaton::Automaton;
 use automaton::Refusal;
 
 mod course;
 mod maker;
-mod opening;
 mod report;
-mod taking;
+mod rows;
+mod start;
+mod step;
 
 // A row of a partial conversion's list: its node, its target, and how many different states it still waits for.
 #[repr(C)]
@@ -34,26 +38,16 @@ pub struct Wholly {
     pub answer: usize,
 }
 
-fn refused_partly(number: u8) -> Partly
-    ensures { λ r. ⌜ r ≡ refusedPartly number ⌝ }
+// The automaton after its first k states are taken out.
+fn partly_of(value: Automaton, k: u32, nodes: &mut [u32]) -> Partly
+    requires { ⌜ Handed value ⌝ }
+    ensures { λ r. ⌜ PartlyOf (heldBy value) k (now (nodes .entry)) (now (nodes .exit)) r ⌝ }
 {
-    let list = report::no_rows();
-    Partly {
-        refusal: Refusal { number },
-        nodes: 0,
-        rows: 0,
-        list,
+    if ground::wide(value.states) < k {
+        return report::refused_partly(Refusal::TOO_FAR);
     }
-}
-
-fn refused(number: u8) -> Wholly
-    ensures { λ r. ⌜ r ≡ refusedWhole number ⌝ }
-{
-    Wholly {
-        refusal: Refusal { number },
-        nodes: 0,
-        answer: 0,
-    }
+    let staged = course::partly(nodes, value, k);
+    report::stop(nodes, staged)
 }
 
 // The automaton of a file after the first k states are taken out: the nodes go to the lent words.
@@ -61,27 +55,21 @@ pub fn convert_partly(file: &[u8], k: u32, nodes: &mut [u32]) -> Partly
     ensures { λ r. ⌜ PartlyAnswered (now (file .entry)) k (now (nodes .entry)) (now (nodes .exit)) r ⌝ }
 {
     let reading = automaton::read(file);
-    let number = reading.refusal.number;
-    if number != 0 {
-        return refused_partly(number);
+    let refusal = reading.refusal;
+    if refusal.number != 0 {
+        return report::refused_partly(refusal);
     }
     let value = reading.automaton;
-    if taking::wide_target(value.states) < k {
-        return refused_partly(9);
-    }
-    let moved = course::partly(nodes, value, k);
-    if moved.full {
-        report::zero(nodes);
-        return refused_partly(6);
-    }
-    let rows = moved.list;
-    let list = report::list_rows(&nodes[..], moved.count, rows);
-    Partly {
-        refusal: Refusal { number: 0 },
-        nodes: moved.count,
-        rows: rows.count,
-        list,
-    }
+    partly_of(value, k, nodes)
+}
+
+// The expression of the automaton.
+fn wholly_of(value: Automaton, nodes: &mut [u32]) -> Wholly
+    requires { ⌜ Handed value ⌝ }
+    ensures { λ r. ⌜ WhollyOf (heldBy value) (now (nodes .entry)) (now (nodes .exit)) r ⌝ }
+{
+    let got = course::wholly(nodes, value);
+    report::answer(nodes, got)
 }
 
 // The expression of a file's automaton: the nodes go to the lent words.
@@ -89,19 +77,10 @@ pub fn convert(file: &[u8], nodes: &mut [u32]) -> Wholly
     ensures { λ r. ⌜ WhollyAnswered (now (file .entry)) (now (nodes .entry)) (now (nodes .exit)) r ⌝ }
 {
     let reading = automaton::read(file);
-    let number = reading.refusal.number;
-    if number != 0 {
-        return refused(number);
+    let refusal = reading.refusal;
+    if refusal.number != 0 {
+        return report::refused_whole(refusal);
     }
     let value = reading.automaton;
-    let got = course::wholly(nodes, value);
-    if got.full {
-        report::zero(nodes);
-        return refused(6);
-    }
-    Wholly {
-        refusal: Refusal { number: 0 },
-        nodes: got.count,
-        answer: got.node as usize,
-    }
+    wholly_of(value, nodes)
 }

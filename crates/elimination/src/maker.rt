@@ -1,15 +1,14 @@
-// Making a node: the rules of document 01, "Eliminating the states", on the lent words.
+// Making a node on the lent words, by the rules that spare one.
 ghost use mathlib.Core.Path.{_≡_};
 ghost use mathlib.Core.Bool.{_&&_};
-ghost use Prim.Native.Nat.{suc, _*_, _%_, _^_, _<_, _≤_};
-ghost use lib.ListN.{length};
+ghost use Prim.Native.Nat.{_<_};
 ghost use lib.Dec.{eqb};
-ghost use Rattle.sets.specs.Members.{has, size, stateWidth};
-ghost use Rattle.expressions.specs.Nodes.{shapeOf};
-ghost use Rattle.expressions.specs.Words.{nodeWidth, readNode, tableOf};
+ghost use Rattle.sets.specs.Members.{size, stateWidth};
+ghost use Rattle.expressions.specs.Words.{nodeIn, tableOf};
 ghost use Rattle.expressions.specs.Soundness.{Fits};
-ghost use Rattle.elimination.specs.Stages.{holeAt, added, altMade, catMade, iterMade};
-ghost use Rattle.elimination.specs.Inside.{Ready, Gives};
+ghost use Rattle.theory.specs.Stages.{added, altMade, catMade, iterMade};
+ghost use Rattle.elimination.specs.Inside.{Ready, GivesNode, openIn};
+use expressions::Shape;
 use sets::StateSet;
 
 // What a maker answers: whether there was no room, else the number of nodes and the node asked for.
@@ -19,79 +18,45 @@ pub struct Got {
     pub node: u32,
 }
 
-fn kind_at(words: &[u32], node: u32) -> u32
-    requires { ⌜ nodeWidth * suc node ≤ length (now words) ⌝ }
-    ensures { λ r. ⌜ r ≡ readNode (now (words .entry)) node .shape .kind ⌝ }
-{
-    let at = 6 * (node as usize);
-    words[at]
-}
-
-fn label_at(words: &[u32], node: u32) -> u32
-    requires { ⌜ nodeWidth * suc node ≤ length (now words) ⌝ }
-    ensures { λ r. ⌜ r ≡ readNode (now (words .entry)) node .shape .label ⌝ }
-{
-    let at = 6 * (node as usize);
-    words[at + 1]
-}
-
-fn word_at(words: &[u32], node: u32) -> u32
-    requires { ⌜ nodeWidth * suc node ≤ length (now words) ⌝ }
-    ensures { λ r. ⌜ r ≡ readNode (now (words .entry)) node .opens ⌝ }
-{
-    let at = 6 * (node as usize);
-    words[at + 5]
-}
-
-fn set_of(word: u32) -> StateSet
-    ensures { λ r. ⌜ r .0 ≡ word % 2 ^ stateWidth ⌝ }
-{
-    StateSet((word % 65536) as u16)
-}
-
 // Is state q open in the node?
 pub fn opens(words: &[u32], node: u32, q: u32) -> bool
-    requires { ⌜ nodeWidth * suc node ≤ length (now words) ⌝ }
-    requires { ⌜ q < 16 ⌝ }
-    ensures { λ r. ⌜ r ≡ has (readNode (now (words .entry)) node .opens) q ⌝ }
+    ensures { λ r. ⌜ r ≡ openIn q (nodeIn (now (words .entry)) node) ⌝ }
 {
-    set_of(word_at(words, node)).has(q)
+    StateSet::of_word(expressions::node_at(words, node as usize).opens).has(q)
 }
 
 // For how many different states the node waits.
 pub fn waits(words: &[u32], node: u32) -> u32
-    requires { ⌜ nodeWidth * suc node ≤ length (now words) ⌝ }
-    ensures { λ r. ⌜ r ≡ size stateWidth (readNode (now (words .entry)) node .opens) ⌝ }
+    ensures { λ r. ⌜ r ≡ size stateWidth (nodeIn (now (words .entry)) node .opens) ⌝ }
 {
-    set_of(word_at(words, node)).count()
+    StateSet::of_word(expressions::node_at(words, node as usize).opens).count()
+}
+
+// Is the node empty?
+fn is_empty(words: &[u32], node: u32) -> bool
+    ensures { λ r. ⌜ r ≡ eqb (nodeIn (now (words .entry)) node .shape .kind) 0 ⌝ }
+{
+    expressions::node_at(words, node as usize).shape.kind == 0
 }
 
 // Is the node hole q?
 fn is_hole(words: &[u32], node: u32, q: u32) -> bool
-    requires { ⌜ nodeWidth * suc node ≤ length (now words) ⌝ }
-    ensures { λ r. ⌜ r ≡ (eqb (readNode (now (words .entry)) node .shape .kind) 1 && eqb q (readNode (now (words .entry)) node .shape .label)) ⌝ }
+    ensures { λ r. ⌜ r ≡ (eqb (nodeIn (now (words .entry)) node .shape .kind) 1 && eqb q (nodeIn (now (words .entry)) node .shape .label)) ⌝ }
 {
-    if kind_at(words, node) == 1 {
-        return q == label_at(words, node);
+    let shape = expressions::node_at(words, node as usize).shape;
+    if shape.kind == 1 {
+        return q == shape.label;
     }
     false
 }
 
 // The next node, where there is room.
-pub fn new_node(
-    words: &mut [u32],
-    count: usize,
-    kind: u32,
-    label: u32,
-    first: u32,
-    second: u32,
-    third: u32,
-) -> Got
+pub fn new_node(words: &mut [u32], count: usize, shape: Shape) -> Got
     requires { ⌜ Ready (now words) count ⌝ }
-    requires { ⌜ Fits count (shapeOf kind label first second third) ⌝ }
-    ensures { λ r. ⌜ Gives (now (words .entry)) (added (tableOf (now (words .entry)) count) (shapeOf kind label first second third)) (now (words .exit)) r ⌝ }
+    requires { ⌜ Fits count shape ⌝ }
+    ensures { λ r. ⌜ GivesNode (now (words .entry)) (added (tableOf (now (words .entry)) count) shape) (now (words .exit)) r ⌝ }
 {
-    let answer = expressions::make(words, count, kind, label, first, second, third);
+    let answer = expressions::make(words, count, shape);
     if answer.number == 0 {
         return Got {
             full: false,
@@ -106,34 +71,44 @@ pub fn new_node(
     }
 }
 
-// The alternation: with an empty side, the other side.
+// The alternation; with an empty side, the other side.
 pub fn make_alt(words: &mut [u32], count: usize, left: u32, right: u32) -> Got
     requires { ⌜ Ready (now words) count ⌝ }
-    requires { ⌜ (left < count) × (right < count) ⌝ }
-    ensures { λ r. ⌜ Gives (now (words .entry)) (altMade (tableOf (now (words .entry)) count) left right) (now (words .exit)) r ⌝ }
+    requires { ⌜ left < count ⌝ }
+    requires { ⌜ right < count ⌝ }
+    ensures { λ r. ⌜ GivesNode (now (words .entry)) (altMade (tableOf (now (words .entry)) count) left right) (now (words .exit)) r ⌝ }
 {
-    if kind_at(&words[..], left) == 0 {
+    if is_empty(&words[..], left) {
         return Got {
             full: false,
             count,
             node: right,
         };
     }
-    if kind_at(&words[..], right) == 0 {
+    if is_empty(&words[..], right) {
         return Got {
             full: false,
             count,
             node: left,
         };
     }
-    new_node(words, count, 3, 0, left, right, 0)
+    let shape = Shape {
+        kind: 3,
+        label: 0,
+        first: left,
+        second: right,
+        third: 0,
+    };
+    new_node(words, count, shape)
 }
 
-// The concatenation over q: with hole q on the left, the right.
+// The concatenation over q; with hole q on the left, the right.
 pub fn make_cat(words: &mut [u32], count: usize, q: u32, left: u32, right: u32) -> Got
     requires { ⌜ Ready (now words) count ⌝ }
-    requires { ⌜ (q < 16) × ((left < count) × (right < count)) ⌝ }
-    ensures { λ r. ⌜ Gives (now (words .entry)) (catMade q (tableOf (now (words .entry)) count) left right) (now (words .exit)) r ⌝ }
+    requires { ⌜ q < stateWidth ⌝ }
+    requires { ⌜ left < count ⌝ }
+    requires { ⌜ right < count ⌝ }
+    ensures { λ r. ⌜ GivesNode (now (words .entry)) (catMade q (tableOf (now (words .entry)) count) left right) (now (words .exit)) r ⌝ }
 {
     if is_hole(&words[..], left, q) {
         return Got {
@@ -142,21 +117,36 @@ pub fn make_cat(words: &mut [u32], count: usize, q: u32, left: u32, right: u32) 
             node: right,
         };
     }
-    new_node(words, count, 4, q, left, right, 0)
+    let shape = Shape {
+        kind: 4,
+        label: q,
+        first: left,
+        second: right,
+        third: 0,
+    };
+    new_node(words, count, shape)
 }
 
-// The iteration over q: of empty, hole q.
+// The iteration over q; of the empty node, hole q.
 pub fn make_iter(words: &mut [u32], count: usize, q: u32, child: u32) -> Got
     requires { ⌜ Ready (now words) count ⌝ }
-    requires { ⌜ (q < 16) × ((child < count) × (holeAt q < count)) ⌝ }
-    ensures { λ r. ⌜ Gives (now (words .entry)) (iterMade q (tableOf (now (words .entry)) count) child) (now (words .exit)) r ⌝ }
+    requires { ⌜ q < stateWidth ⌝ }
+    requires { ⌜ child < count ⌝ }
+    ensures { λ r. ⌜ GivesNode (now (words .entry)) (iterMade q (tableOf (now (words .entry)) count) child) (now (words .exit)) r ⌝ }
 {
-    if kind_at(&words[..], child) == 0 {
+    if is_empty(&words[..], child) {
         return Got {
             full: false,
             count,
             node: q + 1,
         };
     }
-    new_node(words, count, 5, q, child, 0, 0)
+    let shape = Shape {
+        kind: 5,
+        label: q,
+        first: child,
+        second: 0,
+        third: 0,
+    };
+    new_node(words, count, shape)
 }

@@ -1,15 +1,21 @@
-// What a conversion reports: the list with what each row waits for, or words that are all 0.
+// What a conversion reports: a refusal, a stop's list with what each row waits for, or an answer. Where there was no room, every word is 0.
 ghost use mathlib.Core.Path.{_≡_};
-ghost use mathlib.Core.List.{map};
-ghost use lib.ListN.{length, replicate};
-ghost use Rattle.automaton.specs.Answers.{filled};
-ghost use Rattle.expressions.specs.Words.{tableOf};
-ghost use Rattle.elimination.specs.Answers.{listPlaces, unusedPlace, listRow};
-ghost use Rattle.elimination.specs.Inside.{Ready, Listed, rowsIn};
+ghost use mathlib.Core.Bool.{false};
+ghost use lib.ListN.{replicate};
+ghost use Rattle.expressions.specs.Words.{nodeIn};
+ghost use Rattle.theory.specs.RowLists.{listPlaces};
+ghost use Rattle.elimination.specs.Answers.{unusedPlace, listOfRows, refusedPartly, refusedWhole};
+ghost use Rattle.elimination.specs.Inside.{Ready, Listed, Stands, stageIn, reportedRow, ReportsStop, ReportsAnswer};
 use crate::ListRow;
+use crate::Partly;
+use crate::Wholly;
 use crate::maker;
-use crate::taking;
-use crate::taking::Rows;
+use crate::maker::Got;
+use crate::rows;
+use crate::rows::Rows;
+use crate::rows::Staged;
+use automaton::Refusal;
+use theory::NodeRow;
 
 const UNUSED: ListRow = ListRow {
     node: 0,
@@ -17,42 +23,97 @@ const UNUSED: ListRow = ListRow {
     waits: 0,
 };
 
-pub fn no_rows() -> [ListRow; 80]
-    ensures { λ r. ⌜ r ≡ replicate 80 unusedPlace ⌝ }
+// Every place unused.
+fn no_rows() -> [ListRow; 80]
+    ensures { λ r. ⌜ r ≡ replicate listPlaces unusedPlace ⌝ }
 {
     [UNUSED; 80]
 }
 
-// The list, with how many different states each row waits for.
-pub fn list_rows(words: &[u32], count: usize, list: Rows) -> [ListRow; 80]
+// A partial conversion that is refused.
+pub fn refused_partly(refusal: Refusal) -> Partly
+    ensures { λ r. ⌜ r ≡ refusedPartly refusal ⌝ }
+{
+    let list = no_rows();
+    Partly {
+        refusal,
+        nodes: 0,
+        rows: 0,
+        list,
+    }
+}
+
+// A full conversion that is refused.
+pub fn refused_whole(refusal: Refusal) -> Wholly
+    ensures { λ r. ⌜ r ≡ refusedWhole refusal ⌝ }
+{
+    Wholly {
+        refusal,
+        nodes: 0,
+        answer: 0,
+    }
+}
+
+// A row with its waiting number.
+fn list_row(words: &[u32], row: NodeRow) -> ListRow
+    ensures { λ r. ⌜ r ≡ reportedRow (nodeIn (now (words .entry)) (row .node)) row ⌝ }
+{
+    let node = row.node;
+    let target = row.target;
+    let waits = maker::waits(words, ground::wide16(node));
+    ListRow {
+        node,
+        target,
+        waits: waits as u8,
+    }
+}
+
+// The list, with the waiting number of each row.
+fn list_rows(words: &[u32], count: usize, list: Rows) -> [ListRow; 80]
     requires { ⌜ Ready (now words) count ⌝ }
     requires { ⌜ Listed list count ⌝ }
-    ensures { λ r. ⌜ r ≡ filled listPlaces unusedPlace (map (listRow (tableOf (now (words .entry)) count)) (rowsIn list)) ⌝ }
+    ensures { λ r. ⌜ r ≡ listOfRows (stageIn (now (words .entry)) count list) ⌝ }
 {
     let mut out = no_rows();
     let mut i: usize = 0;
     while i < list.count {
         let row = list.places[i];
-        let node = row.node;
-        let target = row.target;
-        let waits = maker::waits(words, taking::wide(node));
-        out[i] = ListRow {
-            node,
-            target,
-            waits: waits as u8,
-        };
+        out[i] = list_row(words, row);
         i += 1;
     }
     out
 }
 
-// Every word 0.
-pub fn zero(words: &mut [u32])
-    ensures { λ _. ⌜ now (words .exit) ≡ replicate (length (now (words .entry))) 0 ⌝ }
+// A stop of a conversion.
+pub fn stop(words: &mut [u32], staged: Staged) -> Partly
+    requires { ⌜ (staged .full ≡ false → Stands (now words) staged) ⌝ }
+    ensures { λ r. ⌜ ReportsStop (now (words .entry)) staged (now (words .exit)) r ⌝ }
 {
-    let mut i: usize = 0;
-    while i < words.len() {
-        words[i] = 0;
-        i += 1;
+    if staged.full {
+        ground::zero(words);
+        return refused_partly(Refusal::SHORT);
+    }
+    let rows = staged.list;
+    let list = list_rows(&words[..], staged.count, rows);
+    Partly {
+        refusal: Refusal::DONE,
+        nodes: staged.count,
+        rows: rows.count,
+        list,
+    }
+}
+
+// The end of a conversion.
+pub fn answer(words: &mut [u32], got: Got) -> Wholly
+    ensures { λ r. ⌜ ReportsAnswer (now (words .entry)) got (now (words .exit)) r ⌝ }
+{
+    if got.full {
+        ground::zero(words);
+        return refused_whole(Refusal::SHORT);
+    }
+    Wholly {
+        refusal: Refusal::DONE,
+        nodes: got.count,
+        answer: got.node as usize,
     }
 }

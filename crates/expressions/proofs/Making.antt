@@ -4,13 +4,16 @@ use native.Mathlib.Omega.{arith}
 use mathlib.Core.Path.{_≡_, refl, sym, _∙_, ap, ap₂}
 use mathlib.Core.List.{List, [], _∷_, _++_}
 use lib.ListN.{length, take, drop}
+use Rattle.sets.specs.Members.{stateWidth}
 use Rattle.automaton.specs.declared.Refusal.{Refusal}
-use Rattle.automaton.specs.Held.{All}
-use Rattle.expressions.specs.Nodes.{Shape, Table, emptyShape, holeShape, symbolShape, altShape, catShape, iterShape, labelOf, symbolOf, arityOf, childCount, children, unused}
+use Rattle.automaton.specs.Refusals.{refusal}
+use Rattle.ground.specs.Lists.{All}
+use Rattle.expressions.specs.declared.Shape.{Shape}
+use Rattle.expressions.specs.Nodes.{Table, emptyShape, holeShape, symbolShape, altShape, catShape, iterShape, labelOf, symbolOf, arityOf, childCount, children, unused}
 use Rattle.expressions.specs.Words.{nodeWidth, tableOf, wordsOf}
 use Rattle.expressions.specs.Unfolding.{built, exprAt}
 use Rattle.expressions.specs.Soundness.{Fits, completed, SoundNodes}
-use Rattle.expressions.specs.Making.{Room, refusal, Makes}
+use Rattle.expressions.specs.Making.{Room, Makes}
 use Rattle.expressions.proofs.Words.{length-table, table-put, table-words, put-words, length-put}
 use Rattle.expressions.proofs.Unfolding.{expr-append}
 use Rattle.expressions.proofs.Soundness.{sound-made, expr-made}
@@ -23,7 +26,7 @@ module _ (number : ℕ) where
   unfolding children unused childCount
   empty-fits = record { labelled = refl; earlier = tt; zeros = (refl, (refl, (refl, tt))) }
 
-  pub hole-fits : (q : ℕ) → q < 16 → Fits number (holeShape q)
+  pub hole-fits : (q : ℕ) → q < stateWidth → Fits number (holeShape q)
   unfolding children unused childCount
   hole-fits q h = record { labelled = h; earlier = tt; zeros = (refl, (refl, (refl, tt))) }
 
@@ -36,11 +39,11 @@ module _ (number : ℕ) where
   unfolding children unused childCount
   alt-fits a b ha hb = record { labelled = refl; earlier = (ha, (hb, tt)); zeros = (refl, tt) }
 
-  pub cat-fits : (q a b : ℕ) → q < 16 → a < number → b < number → Fits number (catShape q a b)
+  pub cat-fits : (q a b : ℕ) → q < stateWidth → a < number → b < number → Fits number (catShape q a b)
   unfolding children unused childCount
   cat-fits q a b h ha hb = record { labelled = h; earlier = (ha, (hb, tt)); zeros = (refl, tt) }
 
-  pub iter-fits : (q a : ℕ) → q < 16 → a < number → Fits number (iterShape q a)
+  pub iter-fits : (q a : ℕ) → q < stateWidth → a < number → Fits number (iterShape q a)
   unfolding children unused childCount
   iter-fits q a h ha = record { labelled = h; earlier = (ha, tt); zeros = (refl, (refl, tt)) }
 
@@ -72,10 +75,10 @@ module _ (before : List ℕ) (count : ℕ) (shape : Shape) (after : List ℕ) (a
     -- one node more
     pub made-table : tableOf after (suc count) ≡ tableOf before count ++ (completed (tableOf before count) shape ∷ [])
     made-table =
-        ap (λ (w : List ℕ). tableOf w (suc count)) (makes .done fits room .1) ∙ table-put before count (completed (tableOf before count) shape) (room .held)
+        ap (λ (w : List ℕ). tableOf w (suc count)) (makes .done fits room .1) ∙ table-put before count (completed (tableOf before count) shape) (room .roomy)
 
     pub made-length : length after ≡ length before
-    made-length = ap length (makes .done fits room .1) ∙ length-put before count (completed (tableOf before count) shape) (room .held)
+    made-length = ap length (makes .done fits room .1) ∙ length-put before count (completed (tableOf before count) shape) (room .roomy)
 
     -- as words: the table's, and what follows, less one node
     pub made-words : (table : Table) (rest : List ℕ) → before ≡ wordsOf table ++ rest → length table ≡ count

@@ -8,13 +8,11 @@ use mathlib.Core.List.{List}
 use lib.ListN.{length}
 use Rattle.automaton.specs.declared.Refusal.{Refusal}
 use Rattle.expressions.specs.declared.Measured.{Measured}
-use Rattle.expressions.specs.declared.Listed.{Listed}
-use Rattle.expressions.specs.Nodes.{Shape}
+use Rattle.expressions.specs.declared.Shape.{Shape}
 use Rattle.expressions.specs.Soundness.{Fits, Sound}
 use Rattle.expressions.specs.Making.{Room, Makes}
-use Rattle.expressions.specs.Answers.{SoundAnswer, Measures, Lists, listingOf}
-use Rattle.automaton.proofs.Laws.{alike}
-use Rattle.automaton.proofs.Deciding.{decides-once}
+use Rattle.expressions.specs.Answers.{SoundAnswer, Measures}
+use Rattle.ground.proofs.Deciding.{alike, decides-once}
 use Rattle.expressions.proofs.Decidable.{dec-fits, dec-room, dec-sound}
 
 pub sound-once : (words : List ℕ) (count answer : ℕ) (r s : Bool) → SoundAnswer words count answer r → SoundAnswer words count answer s → r ≡ s
@@ -37,12 +35,3 @@ measure-once words count answer before after other r s p q = go (dec-sound words
     go (no n) d = alike (p .unsound n) (q .unsound n)
     go (yes k) (yes l) = alike (p .short k l) (q .short k l)
     go (yes k) (no l) = let h : count ≤ length before = omega arith in alike (p .done k h) (q .done k h)
-
-pub list-once : (words : List ℕ) (count answer : ℕ) (before after other : List ℕ) (r s : Listed)
-    → Lists words count answer before after r → Lists words count answer before other s → (r ≡ s) × (after ≡ other)
-list-once words count answer before after other r s p q = go (dec-sound words count answer) (decLt (length before) (length (listingOf words count answer)))
-  where
-    go : Dec (Sound words count answer) → Dec (length before < length (listingOf words count answer)) → (r ≡ s) × (after ≡ other)
-    go (no n) d = alike (p .unsound n) (q .unsound n)
-    go (yes k) (yes l) = alike (p .short k l) (q .short k l)
-    go (yes k) (no l) = let h : length (listingOf words count answer) ≤ length before = omega arith in alike (p .done k h) (q .done k h)

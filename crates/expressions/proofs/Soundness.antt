@@ -6,14 +6,15 @@ use mathlib.Core.Path.{_≡_, refl, _∙_, ap, subst}
 use mathlib.Core.List.{List, [], _∷_, _++_}
 use lib.ListN.{length, take, length-append, List·getD-append}
 use lib.Seq.{getD-append-seam, take-append-le, take-append-seam, length-take-le, getD-take}
-use Rattle.automaton.specs.Held.{All}
-use Rattle.expressions.specs.Nodes.{Shape, Node, Table, noNode, nodeAt, children}
+use Rattle.ground.specs.Lists.{All}
+use Rattle.expressions.specs.declared.Shape.{Shape}
+use Rattle.expressions.specs.declared.Node.{Node}
+use Rattle.expressions.specs.Nodes.{Table, noNode, nodeAt, children}
 use Rattle.expressions.specs.Words.{tableOf, putNode}
 use Rattle.expressions.specs.Unfolding.{built, exprAt}
 use Rattle.expressions.specs.Soundness.{Fits, opensOf, opensIn, completed, SoundNode, SoundNodes, Sound}
 use Rattle.expressions.specs.Making.{Room}
-use Rattle.trees.proofs.Lists.{all-map}
-use Rattle.expressions.proofs.Lists.{map-same}
+use Rattle.ground.proofs.Lists.{all-map, map-same}
 use Rattle.expressions.proofs.Words.{table-put, length-put, length-table}
 use Rattle.expressions.proofs.Unfolding.{expr-new, expr-at, expr-take, built-same}
 
@@ -90,9 +91,9 @@ sound-put words count answer shape s f room =
     record {
       some = omega arith;
       few = room .few;
-      held = omega (arith, length-put words count (completed (tableOf words count) shape) (room .held), room .held);
+      roomy = omega (arith, length-put words count (completed (tableOf words count) shape) (room .roomy), room .roomy);
       within = omega arith;
       kept =
-          rw (table-put words count (completed (tableOf words count) shape) (room .held))
+          rw (table-put words count (completed (tableOf words count) shape) (room .roomy))
           (sound-made (tableOf words count) shape (s .kept) (rw (length-table words count) f));
     }

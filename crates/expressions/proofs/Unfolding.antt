@@ -5,11 +5,13 @@ use mathlib.Core.Path.{_≡_, refl, sym, _∙_, ap}
 use mathlib.Core.List.{List, [], _∷_, _++_, map}
 use lib.ListN.{length, getD, take, drop, length-append, List·getD-append, take-append-drop}
 use lib.Seq.{getD-at, length-take-le, split-at, append-snoc}
-use Rattle.expressions.specs.Expressions.{Expr, emptyᴱ, holeᴱ, symbolᴱ, altᴱ, catᴱ, iterᴱ}
-use Rattle.automaton.specs.Held.{All}
-use Rattle.expressions.specs.Nodes.{Shape, Node, Table, emptyShape, holeShape, symbolShape, altShape, catShape, iterShape, noNode, nodeAt, symbolOf, arityOf, childCount, children}
+use Rattle.meaning.specs.Expressions.{Expr, emptyᴱ, holeᴱ, symbolᴱ, altᴱ, catᴱ, iterᴱ}
+use Rattle.ground.specs.Lists.{All}
+use Rattle.expressions.specs.declared.Shape.{Shape}
+use Rattle.expressions.specs.declared.Node.{Node}
+use Rattle.expressions.specs.Nodes.{Table, emptyShape, holeShape, symbolShape, altShape, catShape, iterShape, noNode, nodeAt, symbolOf, arityOf, childCount, children}
 use Rattle.expressions.specs.Unfolding.{exprsOf, builtOf, built, unfolded, exprAt}
-use Rattle.expressions.proofs.Lists.{map-same}
+use Rattle.ground.proofs.Lists.{map-same}
 
 pub unfolded-append : (earlier : List Expr) (table more : Table) → unfolded earlier (table ++ more) ≡ unfolded (unfolded earlier table) more
 unfolding unfolded

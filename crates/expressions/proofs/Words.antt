@@ -1,14 +1,16 @@
 -- The laws of nodes as words: a node is read where it was written, and a table from the words that hold it.
-use Prim.Native.Nat.{ℕ, zero, suc, _+_, _*_, _<_, _≤_}
+use Prim.Native.Nat.{ℕ, zero, suc, _+_, _*_, _-_, _<_, _≤_}
 use native.Mathlib.Omega.{arith}
 use native.Mathlib.Decide.{decLt}
 use native.Mathlib.Nat.{add-zero}
 use mathlib.Core.Path.{_≡_, refl, sym, _∙_, ap, ap₂}
 use mathlib.Core.List.{List, [], _∷_, _++_, append-assoc, append-nil}
-use lib.ListN.{length, getD, set, take, drop, length-append, length-drop, List·getD-append}
+use lib.ListN.{length, getD, set, take, drop, drop-of-length-le, length-append, length-drop, List·getD-append}
 use lib.Seq.{sets-eq, getD-append-seam, getD-drop, getD-take, ext-getD, take-at, drop-at, drop-drop, length-take-le, take-all, take-add}
-use Rattle.expressions.specs.Nodes.{Node, Table, noNode, nodeAt}
-use Rattle.expressions.specs.Words.{nodeWidth, encode, decode, readNode, tableOf, wordsOf, putNode}
+use borrow.Author.Tests.{le-leb, lt-leb}
+use Rattle.expressions.specs.declared.Node.{Node}
+use Rattle.expressions.specs.Nodes.{Table, noNode, nodeAt}
+use Rattle.expressions.specs.Words.{nodeWidth, encode, decode, readNode, nodeIn, tableOf, wordsOf, putNode}
 
 -- ---- one node
 
@@ -52,6 +54,15 @@ pub read-words : (words : List ℕ) (i : ℕ)
     }
 unfolding readNode decode
 read-words words i = simp (getD-drop, add-zero)
+
+-- of any words: the node where they hold it whole, and else the empty node
+pub node-whole : (words : List ℕ) (i : ℕ) → nodeWidth * suc i ≤ length words → nodeIn words i ≡ readNode words i
+unfolding nodeIn
+node-whole words i h = rw (le-leb (nodeWidth * suc i) (length words) h)
+
+pub node-past : (words : List ℕ) (i : ℕ) → length words < nodeWidth * suc i → nodeIn words i ≡ noNode
+unfolding nodeIn
+node-past words i h = rw (lt-leb (nodeWidth * suc i) (length words) h)
 
 -- ---- a table of the words
 
@@ -206,19 +217,23 @@ words-table words (suc count) h =
     ∙ ap₂ _++_ (words-table words count (omega arith)) (front-words rest k)
     ∙ sym (ap (λ (m : ℕ). take m words) e ∙ take-add (nodeWidth * count) nodeWidth words)
 
--- six stores one after the other write the node
-pub six-stores : (words : List ℕ) (i : ℕ) (node : Node) → nodeWidth * suc i ≤ length words
-    → set (set (set (set (set (set words (nodeWidth * i) (node .shape .kind)) (nodeWidth * i + 1) (node .shape .label)) (nodeWidth * i + 2) (node .shape .first)) (nodeWidth * i + 3) (node .shape .second)) (nodeWidth * i + 4) (node .shape .third)) (nodeWidth * i + 5) (node .opens)
-    ≡ putNode words i node
-unfolding putNode encode
-six-stores words i node h =
-    let p = nodeWidth * i in
-    let e1 : p + 1 ≡ suc p = omega arith in
-    let e2 : p + 2 ≡ suc (suc p) = omega arith in
-    let e3 : p + 3 ≡ suc (suc (suc p)) = omega arith in
-    let e4 : p + 4 ≡ suc (suc (suc (suc p))) = omega arith in
-    let e5 : p + 5 ≡ suc (suc (suc (suc (suc p)))) = omega arith in
-    let e6 : nodeWidth * suc i ≡ p + nodeWidth = omega arith in
-    rw (e1, e2, e3, e4, e5)
-    (sets-eq (encode node) words p (omega arith) ∙ append-assoc (take p words) (encode node) (drop (p + nodeWidth) words)
-    ∙ ap (λ (k : ℕ). take p words ++ (encode node ++ drop k words)) (sym e6))
+-- six stores one after the other write a node over the words of one
+pub six-stores : (words : List ℕ) (node : Node) → length words ≡ nodeWidth
+    → set (set (set (set (set (set words 0 (node .shape .kind)) 1 (node .shape .label)) 2 (node .shape .first)) 3 (node .shape .second)) 4 (node .shape .third)) 5 (node .opens)
+    ≡ encode node
+unfolding encode
+six-stores words node h =
+    let e : drop nodeWidth words ≡ [] = drop-of-length-le words {i = nodeWidth} (omega arith) in
+    sets-eq (encode node) words 0 (omega arith) ∙ rw e (append-nil (encode node))
+
+-- a node put over the words of one, in the place of those
+pub put-part : (words : List ℕ) (i : ℕ) (node : Node) {k : ℕ} {last : List ℕ} → k ≡ nodeWidth → last ≡ encode node
+    → take (nodeWidth * i) words ++ (last ++ drop k (drop (nodeWidth * i) words)) ≡ putNode words i node
+unfolding putNode
+put-part words i node w e =
+    let m : nodeWidth * i + nodeWidth ≡ nodeWidth * suc i = omega arith in
+    rw (w, e, drop-drop nodeWidth (nodeWidth * i) words, m)
+
+-- the words from a node's place on
+pub rest-part : (words : List ℕ) (at : ℕ) → take (length words - at) (drop at words) ≡ drop at words
+rest-part words at = take-all (length words - at) (drop at words) (omega (arith, length-drop at words))

@@ -3,38 +3,32 @@ use Prim.Native.Nat.{ℕ, zero, suc, _+_, _<_, _≤_}
 use native.Mathlib.Omega.{arith}
 use native.Mathlib.Numerals.{add-one}
 use mathlib.Core.Path.{_≡_, refl, sym, _∙_, ap}
-use mathlib.Core.Bool.{cond}
 use mathlib.Core.List.{List, [], _∷_, _++_, map, map-append}
-use lib.Dec.{ltb}
 use lib.ListN.{length, getD, set, take, drop, length-map, List·getD-append}
 use lib.Seq.{set-at, drop-cons, append-snoc}
-use borrow.Author.Tests.{lt-ltb}
-use Rattle.automaton.specs.Held.{All}
-use Rattle.expressions.specs.Expressions.{Expr, emptyᴱ}
-use Rattle.expressions.specs.Nodes.{Shape, Node, Table, arityOf, childCount, children}
+use Rattle.ground.specs.Lists.{All}
+use Rattle.meaning.specs.Expressions.{Expr, emptyᴱ}
+use Rattle.expressions.specs.declared.Shape.{Shape}
+use Rattle.expressions.specs.declared.Node.{Node}
+use Rattle.expressions.specs.Nodes.{Kind, emptyᴷ, holeᴷ, symbolᴷ, altᴷ, catᴷ, iterᴷ, otherᴷ, kindOf, Table, arityOf, childrenOf, childCount, children}
 use Rattle.expressions.specs.Words.{readNode, tableOf}
-use Rattle.expressions.specs.Unfolding.{exprsOf, builtOf, built, unfolded, exprAt}
+use Rattle.expressions.specs.Unfolding.{exprsOf, builtBy, builtOf, built, unfolded, exprAt}
 use Rattle.expressions.specs.Soundness.{Fits, Sound}
-use Rattle.expressions.specs.Sizes.{writtenSize, writtenSizes, held, heldSize, sumAll, sizeOver, sizesOf}
+use Rattle.expressions.specs.Sizes.{writtenSize, writtenSizes, held, heldSize, sizesOf}
+use Rattle.expressions.specs.Inside.{sumAll, sizeOver}
 use Rattle.expressions.specs.Answers.{Measures, measured}
-use Rattle.trees.proofs.Lists.{all-map}
-use Rattle.expressions.proofs.Lists.{map-same}
+use Rattle.ground.proofs.Lists.{all-map, map-same}
 use Rattle.expressions.proofs.Words.{length-table, table-more}
 use Rattle.expressions.proofs.Unfolding.{length-unfolded, unfolded-snoc}
 
 -- ---- one node
 
--- the sum over the first n of three children
-pub sum-three : (f : ℕ → ℕ) (n a b c : ℕ) → cond (ltb 0 n) (f a) 0 + (cond (ltb 1 n) (f b) 0 + cond (ltb 2 n) (f c) 0) ≡ sumAll (map f (take n (a ∷ b ∷ c ∷ [])))
-sum-three f zero a b c = refl
-sum-three f (suc zero) a b c = refl
-sum-three f (suc (suc zero)) a b c = refl
-sum-three f (suc (suc (suc n))) a b c =
-    rw (lt-ltb 0 (suc (suc (suc n))) (omega arith), lt-ltb 1 (suc (suc (suc n))) (omega arith), lt-ltb 2 (suc (suc (suc n))) (omega arith)) (omega (arith, rest n))
-  where
-    rest : (n : ℕ) → sumAll (map f (take n [])) ≡ 0
-    rest zero = refl
-    rest (suc n) = refl
+-- holding, by a test
+pub held-under : {n m : ℕ} → n ≡ m → n < 4294967295 → n ≡ held m
+held-under e h = omega arith
+
+pub held-over : {n m : ℕ} → n ≡ m → 4294967295 ≤ n → 4294967295 ≡ held m
+held-over e h = omega arith
 
 -- a held sum of held numbers is the held sum
 pub held-sum : (f : ℕ → ℕ) (cs : List ℕ) (m : ℕ) → held (m + sumAll (map (λ c. held (f c)) cs)) ≡ held (m + sumAll (map f cs))
@@ -48,23 +42,22 @@ unfolding exprsOf
 sizes-sum g [] = refl
 sizes-sum g (c ∷ cs) = ap (λ (n : ℕ). writtenSize (g c) + n) (sizes-sum g cs)
 
-size-built : (kind label x y z : ℕ) (g : ℕ → Expr)
-    → writtenSize (builtOf kind label (map g (take (childCount kind label) (x ∷ y ∷ z ∷ []))))
-    ≡ 1 + sumAll (map (λ c. writtenSize (g c)) (take (childCount kind label) (x ∷ y ∷ z ∷ [])))
-unfolding builtOf childCount
-size-built zero label x y z g = refl
-size-built (suc zero) label x y z g = refl
-size-built (suc (suc zero)) label x y z g = ap (λ (n : ℕ). 1 + n) (sizes-sum g (take (arityOf label) (x ∷ y ∷ z ∷ [])))
-size-built (suc (suc (suc zero))) label x y z g = omega arith
-size-built (suc (suc (suc (suc zero)))) label x y z g = omega arith
-size-built (suc (suc (suc (suc (suc zero))))) label x y z g = omega arith
-size-built (suc (suc (suc (suc (suc (suc k)))))) label x y z g = refl
+size-built : (kind : Kind) (label x y z : ℕ) (g : ℕ → Expr)
+    → writtenSize (builtBy kind label (map g (take (childrenOf kind label) (x ∷ y ∷ z ∷ []))))
+    ≡ 1 + sumAll (map (λ c. writtenSize (g c)) (take (childrenOf kind label) (x ∷ y ∷ z ∷ [])))
+size-built emptyᴷ label x y z g = refl
+size-built holeᴷ label x y z g = refl
+size-built symbolᴷ label x y z g = ap (λ (n : ℕ). 1 + n) (sizes-sum g (take (arityOf label) (x ∷ y ∷ z ∷ [])))
+size-built altᴷ label x y z g = omega arith
+size-built catᴷ label x y z g = omega arith
+size-built iterᴷ label x y z g = omega arith
+size-built otherᴷ label x y z g = refl
 
 -- the held size of a shape's expression, by the held sizes of its children
 pub held-built : (g : ℕ → Expr) (shape : Shape) → heldSize (built g shape) ≡ held (sizeOver (λ c. heldSize (g c)) shape)
-unfolding heldSize built sizeOver children
+unfolding heldSize built builtOf sizeOver children childCount
 held-built g shape =
-    ap held (size-built (shape .kind) (shape .label) (shape .first) (shape .second) (shape .third) g)
+    ap held (size-built (kindOf (shape .kind)) (shape .label) (shape .first) (shape .second) (shape .third) g)
     ∙ sym (held-sum (λ c. writtenSize (g c)) (children shape) 1)
 
 -- only the children's sizes count

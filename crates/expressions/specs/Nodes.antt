@@ -1,29 +1,39 @@
--- Document 01, "The node table": a node and a table, as numbers and not yet as words. What a node says by its kind, its label and its children is its shape; what is derived from the children stands beside it.
+-- The node table: a node and a table as numbers, not yet as words. What a node says by its kind, its label and its children is its shape; its open set, which follows from those of the children, stands beside it.
 use Prim.Native.Nat.{ℕ, zero, suc, _+_, _*_, _/_, _%_}
 use mathlib.Core.List.{List, [], _∷_}
 use lib.ListN.{getD, take, drop}
+use Rattle.expressions.specs.declared.Shape.{Shape}
+use Rattle.expressions.specs.declared.Node.{Node}
 
--- "kind (0 empty, 1 hole, 2 symbol, 3 alternation, 4 concatenation, 5 iteration); label; three child numbers"
-pub record Shape : Type 0 where
-  pub kind : ℕ
-  pub label : ℕ
-  pub first : ℕ
-  pub second : ℕ
-  pub third : ℕ
+-- the six kinds, and what every other number comes to [7.2] [7.4]
+pub data Kind : Type 0 where
+  emptyᴷ : Kind
+  holeᴷ : Kind
+  symbolᴷ : Kind
+  altᴷ : Kind
+  catᴷ : Kind
+  iterᴷ : Kind
+  otherᴷ : Kind
 
--- a shape, and what is derived from the children: the open set
-pub record Node : Type 0 where
-  pub shape : Shape
-  pub opens : ℕ
+-- the kind that a number stands for [7.2]
+abbrev pub kindOf : ℕ → Kind
+kindOf zero = emptyᴷ
+kindOf (suc zero) = holeᴷ
+kindOf (suc (suc zero)) = symbolᴷ
+kindOf (suc (suc (suc zero))) = altᴷ
+kindOf (suc (suc (suc (suc zero)))) = catᴷ
+kindOf (suc (suc (suc (suc (suc zero))))) = iterᴷ
+kindOf (suc (suc (suc (suc (suc (suc n)))))) = otherᴷ
 
--- node 0, node 1, ..
+-- a table: node 0, node 1 and so on [7.1]
 abbrev pub Table : Type 0
 Table = List Node
 
+-- the shape of these five numbers [7.1]
 abbrev pub shapeOf : (kind label first second third : ℕ) → Shape
 shapeOf kind label first second third = record { kind = kind; label = label; first = first; second = second; third = third }
 
--- the shapes of each kind
+-- the shapes of each kind, with 0 in the places that it does not use [7.2] [7.5]
 abbrev pub emptyShape : Shape
 emptyShape = shapeOf 0 0 0 0 0
 
@@ -42,39 +52,51 @@ catShape q left right = shapeOf 4 q left right 0
 abbrev pub iterShape : ℕ → ℕ → Shape
 iterShape q child = shapeOf 5 q child 0 0
 
--- what a table has at a number; past its end the empty node
+-- the empty node: every number 0 [7.20]
 abbrev pub noNode : Node
 noNode = record { shape = emptyShape; opens = 0 }
 
+-- the node of this number, and the empty node past the end of the table
 abbrev pub nodeAt : Table → ℕ → Node
 nodeAt table i = getD table i noNode
 
--- a symbol's label: "symbol + 256 × arity"
+-- what each subtree of a symbol adds to its label [7.2]
+abbrev pub arityStep : ℕ
+arityStep = 256
+
+-- the label of a symbol with this arity [7.2]
 unfoldable pub labelOf : (symbol arity : ℕ) → ℕ
-labelOf symbol arity = symbol + 256 * arity
+labelOf symbol arity = symbol + arityStep * arity
 
+-- the symbol's number in a label [7.2]
 abbrev pub symbolOf : ℕ → ℕ
-symbolOf label = label % 256
+symbolOf label = label % arityStep
 
+-- the arity in a label [7.2]
 abbrev pub arityOf : ℕ → ℕ
-arityOf label = label / 256
+arityOf label = label / arityStep
 
--- how many children a node of this kind and label has
+-- how many children a node of a kind has, of a symbol by its label [7.2]
+abbrev pub childrenOf : Kind → ℕ → ℕ
+childrenOf emptyᴷ label = 0
+childrenOf holeᴷ label = 0
+childrenOf symbolᴷ label = arityOf label
+childrenOf altᴷ label = 2
+childrenOf catᴷ label = 2
+childrenOf iterᴷ label = 1
+childrenOf otherᴷ label = 0
+
 unfoldable pub childCount : (kind label : ℕ) → ℕ
-childCount zero label = 0
-childCount (suc zero) label = 0
-childCount (suc (suc zero)) label = arityOf label
-childCount (suc (suc (suc zero))) label = 2
-childCount (suc (suc (suc (suc zero)))) label = 2
-childCount (suc (suc (suc (suc (suc zero))))) label = 1
-childCount (suc (suc (suc (suc (suc (suc k)))))) label = 0
+childCount kind label = childrenOf (kindOf kind) label
 
--- the places for children: those that are used, and those that are not
+-- the three places for children [7.1]
 abbrev pub places : Shape → List ℕ
 places shape = shape .first ∷ shape .second ∷ shape .third ∷ []
 
+-- those that are used, from the left [7.2]
 unfoldable pub children : Shape → List ℕ
 children shape = take (childCount (shape .kind) (shape .label)) (places shape)
 
+-- and those that are not [7.5]
 unfoldable pub unused : Shape → List ℕ
 unused shape = drop (childCount (shape .kind) (shape .label)) (places shape)

@@ -1,11 +1,11 @@
--- Document 01, "Measuring and listing": the written-out size of an expression, and the sizes of a table's nodes.
+-- The written-out size of an expression, and the sizes of a table's nodes.
 use Prim.Native.Nat.{ℕ, _+_, min}
-use mathlib.Core.List.{List, [], _∷_, map}
-use Rattle.expressions.specs.Expressions.{Expr, Exprs, emptyᴱ, holeᴱ, symbolᴱ, altᴱ, catᴱ, iterᴱ, []ᴱ, _∷ᴱ_}
-use Rattle.expressions.specs.Nodes.{Shape, Table, children}
+use mathlib.Core.List.{List, [], map}
+use Rattle.meaning.specs.Expressions.{Expr, Exprs, emptyᴱ, holeᴱ, symbolᴱ, altᴱ, catᴱ, iterᴱ, []ᴱ, _∷ᴱ_}
+use Rattle.expressions.specs.Nodes.{Table}
 use Rattle.expressions.specs.Unfolding.{unfolded}
 
--- "1 plus the sizes of the children, shared nodes counted each time"
+-- one, and the sizes of the parts; a part that is used twice counts twice [9.1]
 abbrev mutual
   pub writtenSize : Expr → ℕ
   writtenSize emptyᴱ = 1
@@ -19,21 +19,14 @@ abbrev mutual
   writtenSizes []ᴱ = 0
   writtenSizes (e ∷ᴱ es) = writtenSize e + writtenSizes es
 
--- "held at 4,294,967,295 when larger"
+-- a number held at the limit for sizes [9.2]
 abbrev pub held : ℕ → ℕ
 held n = min n 4294967295
 
+-- the held size of an expression [9.1] [9.2]
 unfoldable pub heldSize : Expr → ℕ
 heldSize e = held (writtenSize e)
 
--- the same by a node's shape: 1 plus the sizes of its children
-abbrev pub sumAll : List ℕ → ℕ
-sumAll [] = 0
-sumAll (n ∷ ns) = n + sumAll ns
-
-unfoldable pub sizeOver : (ℕ → ℕ) → Shape → ℕ
-sizeOver size shape = 1 + sumAll (map size (children shape))
-
--- the held size of each node
+-- the held size of each node [9.3]
 unfoldable pub sizesOf : Table → List ℕ
 sizesOf table = map heldSize (unfolded [] table)

@@ -1,10 +1,12 @@
-// Expressions: the node table, checked, measured, listed and made.
-ghost use Rattle.expressions.specs.Nodes.{shapeOf};
+// Expressions: the node table, checked, measured and made.
+ghost use mathlib.Core.Path.{_≡_};
+ghost use Rattle.expressions.specs.Nodes.{childCount};
+ghost use Rattle.expressions.specs.Words.{nodeIn};
 ghost use Rattle.expressions.specs.Making.{Makes};
-ghost use Rattle.expressions.specs.Answers.{SoundAnswer, Measures, Lists};
+ghost use Rattle.expressions.specs.Answers.{SoundAnswer, Measures};
 use automaton::Refusal;
 
-mod lines;
+mod layout;
 mod nodes;
 mod sizes;
 
@@ -14,6 +16,23 @@ pub const NODE_WIDTH: usize = 6;
 // The most nodes that a table may have.
 pub const MOST_NODES: usize = 4096;
 
+// What a node says: its kind, its label and three places for children.
+#[repr(C)]
+pub struct Shape {
+    pub kind: u32,
+    pub label: u32,
+    pub first: u32,
+    pub second: u32,
+    pub third: u32,
+}
+
+// A node: its shape, and the open set that follows from those of its children.
+#[repr(C)]
+pub struct Node {
+    pub shape: Shape,
+    pub opens: u32,
+}
+
 // What `measure` answers: the written-out size of the answer's expression, 0 on a refusal.
 #[repr(C)]
 pub struct Measured {
@@ -21,11 +40,45 @@ pub struct Measured {
     pub size: u32,
 }
 
-// What `list` answers: the listing's length, 0 on a refusal.
-#[repr(C)]
-pub struct Listed {
-    pub refusal: Refusal,
-    pub length: usize,
+// The node with every number 0.
+const EMPTY: Node = Node {
+    shape: Shape {
+        kind: 0,
+        label: 0,
+        first: 0,
+        second: 0,
+        third: 0,
+    },
+    opens: 0,
+};
+
+impl Shape {
+    // How many of the places are used.
+    pub fn child_count(self) -> u32
+        ensures { λ r. ⌜ r ≡ childCount (self .kind) (self .label) ⌝ }
+    {
+        let kind = self.kind;
+        let label = self.label;
+        match kind {
+            0 => 0,
+            1 => 0,
+            2 => label / 256,
+            3 => 2,
+            4 => 2,
+            5 => 1,
+            _ => 0,
+        }
+    }
+}
+
+// Node i as the words have it; the empty node where they do not hold it whole.
+pub fn node_at(words: &[u32], i: usize) -> Node
+    ensures { λ r. ⌜ r ≡ nodeIn (now (words .entry)) i ⌝ }
+{
+    if i < words.len() / NODE_WIDTH {
+        return layout::node_at(words, i);
+    }
+    EMPTY
 }
 
 // Are the words a sound table of so many nodes, with this answer?
@@ -41,40 +94,24 @@ pub fn is_sound(words: &[u32], count: usize, answer: usize) -> bool
     if count <= answer {
         return false;
     }
-    let mut i: usize = 0;
-    while i < count {
-        if !nodes::node_sound(words, i) {
-            return false;
-        }
-        i += 1;
-    }
-    true
+    nodes::all_sound(words, count)
 }
 
-// The node of this kind and label over these children, as the next node of the table. Its open set is derived from the children's. Refused, and nothing changed: 8 where the label or a child does not suit, then 6 where there is no room.
-pub fn make(
-    words: &mut [u32],
-    count: usize,
-    kind: u32,
-    label: u32,
-    first: u32,
-    second: u32,
-    third: u32,
-) -> Refusal
-    ensures { λ r. ⌜ Makes (now (words .entry)) count (shapeOf kind label first second third) (now (words .exit)) r ⌝ }
+// The node of this shape, as the next node of the table. Its open set is derived from the children's. Refused, and nothing changed: 8 where the label or a child does not suit, then 6 where there is no room.
+pub fn make(words: &mut [u32], count: usize, shape: Shape) -> Refusal
+    ensures { λ r. ⌜ Makes (now (words .entry)) count shape (now (words .exit)) r ⌝ }
 {
-    if !nodes::shape_fits(count, kind, label, first, second, third) {
-        return Refusal { number: 8 };
+    if !nodes::shape_fits(count, shape) {
+        return Refusal::UNSOUND;
     }
     if MOST_NODES <= count {
-        return Refusal { number: 6 };
+        return Refusal::SHORT;
     }
     if words.len() < NODE_WIDTH * count + NODE_WIDTH {
-        return Refusal { number: 6 };
+        return Refusal::SHORT;
     }
-    let opens = nodes::open_of(&words[..], kind, label, first, second, third);
-    nodes::put(words, count, kind, label, first, second, third, opens);
-    Refusal { number: 0 }
+    nodes::put_made(words, count, shape);
+    Refusal::DONE
 }
 
 // The written-out sizes of the nodes, into the scratch words, and the answer's.
@@ -83,42 +120,19 @@ pub fn measure(words: &[u32], count: usize, answer: usize, scratch: &mut [u32]) 
 {
     if !is_sound(words, count, answer) {
         return Measured {
-            refusal: Refusal { number: 8 },
+            refusal: Refusal::UNSOUND,
             size: 0,
         };
     }
     if scratch.len() < count {
         return Measured {
-            refusal: Refusal { number: 6 },
+            refusal: Refusal::SHORT,
             size: 0,
         };
     }
     sizes::fill(words, count, scratch);
     Measured {
-        refusal: Refusal { number: 0 },
+        refusal: Refusal::DONE,
         size: scratch[answer],
-    }
-}
-
-// The listing of the table, into the bytes.
-pub fn list(words: &[u32], count: usize, answer: usize, out: &mut [u8]) -> Listed
-    ensures { λ r. ⌜ Lists (now (words .entry)) count answer (now (out .entry)) (now (out .exit)) r ⌝ }
-{
-    if !is_sound(words, count, answer) {
-        return Listed {
-            refusal: Refusal { number: 8 },
-            length: 0,
-        };
-    }
-    if out.len() < lines::listing_length(words, count, answer) {
-        return Listed {
-            refusal: Refusal { number: 6 },
-            length: 0,
-        };
-    }
-    let length = lines::put_listing(words, count, answer, out);
-    Listed {
-        refusal: Refusal { number: 0 },
-        length,
     }
 }

@@ -1,25 +1,18 @@
 // Written-out sizes: of one node by those of its children, and of the nodes of a table in their order.
 ghost use mathlib.Core.Path.{_≡_};
 ghost use mathlib.Core.Bool.{cond};
-ghost use mathlib.Core.List.{[], _∷_, _++_, map};
-ghost use Prim.Native.Nat.{suc, _+_, _*_, _<_, _≤_};
+ghost use mathlib.Core.List.{_++_};
+ghost use Prim.Native.Nat.{suc, _*_, _<_, _≤_};
 ghost use lib.Dec.{ltb};
-ghost use lib.ListN.{length, getD, take, drop};
-ghost use Rattle.automaton.specs.Held.{All};
-ghost use Rattle.expressions.specs.Nodes.{shapeOf, children};
+ghost use lib.ListN.{length, getD, drop};
+ghost use Rattle.ground.specs.Lists.{All};
+ghost use Rattle.expressions.specs.Nodes.{children};
 ghost use Rattle.expressions.specs.Words.{nodeWidth, readNode, tableOf};
 ghost use Rattle.expressions.specs.Soundness.{Fits, SoundNodes};
-ghost use Rattle.expressions.specs.Sizes.{held, sumAll, sizeOver, sizesOf};
-use crate::NODE_WIDTH;
-
-// The size of a node that has one.
-fn size_of(sizes: &[u32], node: u32) -> u64
-    requires { ⌜ node < length (now sizes) ⌝ }
-    ensures { λ r. ⌜ (r ≡ getD (now (sizes .entry)) node 0) × (r < 4294967296) ⌝ }
-{
-    let at = node as usize;
-    sizes[at] as u64
-}
+ghost use Rattle.expressions.specs.Sizes.{held, sizesOf};
+ghost use Rattle.expressions.specs.Inside.{sizeOver};
+use crate::Shape;
+use crate::layout;
 
 // The size of a child, or 0 where it is none of the n that are used.
 fn part(sizes: &[u32], place: u32, n: u32, child: u32) -> u64
@@ -27,64 +20,36 @@ fn part(sizes: &[u32], place: u32, n: u32, child: u32) -> u64
     ensures { λ r. ⌜ (r ≡ cond (ltb place n) (getD (now (sizes .entry)) child 0) 0) × (r < 4294967296) ⌝ }
 {
     if place < n {
-        return size_of(sizes, child);
+        let at = child as usize;
+        return sizes[at] as u64;
     }
     0
 }
 
-// 1 plus the sizes of n children.
-fn symbol_size(sizes: &[u32], n: u32, first: u32, second: u32, third: u32) -> u64
-    requires { ⌜ All (λ c. c < length (now sizes)) (take n (first ∷ second ∷ third ∷ [])) ⌝ }
-    ensures { λ r. ⌜ (r ≡ 1 + sumAll (map (λ c. getD (now (sizes .entry)) c 0) (take n (first ∷ second ∷ third ∷ [])))) ⌝ }
+// 1 plus the sizes of a node's children.
+fn size_over(sizes: &[u32], shape: Shape) -> u64
+    requires { ⌜ All (λ c. c < length (now sizes)) (children shape) ⌝ }
+    ensures { λ r. ⌜ r ≡ sizeOver (λ c. getD (now (sizes .entry)) c 0) shape ⌝ }
 {
-    let a = part(sizes, 0, n, first);
-    let b = part(sizes, 1, n, second);
-    let c = part(sizes, 2, n, third);
+    let n = shape.child_count();
+    let a = part(sizes, 0, n, shape.first);
+    let b = part(sizes, 1, n, shape.second);
+    let c = part(sizes, 2, n, shape.third);
     1 + a + b + c
 }
 
-// 1 plus the sizes of a node's children.
-fn size_over(sizes: &[u32], kind: u32, label: u32, first: u32, second: u32, third: u32) -> u64
-    requires { ⌜ All (λ c. c < length (now sizes)) (children (shapeOf kind label first second third)) ⌝ }
-    ensures { λ r. ⌜ r ≡ sizeOver (λ c. getD (now (sizes .entry)) c 0) (shapeOf kind label first second third) ⌝ }
-{
-    match kind {
-        0 => 1,
-        1 => 1,
-        2 => symbol_size(sizes, label / 256, first, second, third),
-        3 => 1 + size_of(sizes, first) + size_of(sizes, second),
-        4 => 1 + size_of(sizes, first) + size_of(sizes, second),
-        5 => 1 + size_of(sizes, first),
-        _ => 1,
-    }
-}
-
-// The number, held at the largest 32-bit number.
-fn held_at(total: u64) -> u32
-    ensures { λ r. ⌜ r ≡ held total ⌝ }
-{
-    if total < 4294967295 {
-        return total as u32;
-    }
-    4294967295
-}
-
-// The held size of node i, by those of the nodes before it.
+// The size of node i by those of the nodes before it, held at the largest 32-bit number.
 fn size_at(words: &[u32], sizes: &[u32], i: usize) -> u32
     requires { ⌜ nodeWidth * suc i ≤ length (now words) ⌝ }
     requires { ⌜ i ≤ length (now sizes) ⌝ }
     requires { ⌜ Fits i (readNode (now words) i .shape) ⌝ }
     ensures { λ r. ⌜ r ≡ held (sizeOver (λ c. getD (now (sizes .entry)) c 0) (readNode (now (words .entry)) i .shape)) ⌝ }
 {
-    let at = NODE_WIDTH * i;
-    held_at(size_over(
-        sizes,
-        words[at],
-        words[at + 1],
-        words[at + 2],
-        words[at + 3],
-        words[at + 4],
-    ))
+    let total = size_over(sizes, layout::node_at(words, i).shape);
+    if total < 4294967295 {
+        return total as u32;
+    }
+    4294967295
 }
 
 // The held size of every node.

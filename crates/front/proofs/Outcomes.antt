@@ -11,13 +11,14 @@ use Rattle.automaton.proofs.Faults.{fault-number, fault-some}
 use Rattle.automaton.specs.Checks.{Verdict, holds, fault, verdict}
 use Rattle.expressions.specs.Nodes.{Table}
 use Rattle.expressions.specs.Words.{nodeWidth, tableOf}
-use Rattle.expressions.specs.Listing.{plainLabel, listing}
-use Rattle.expressions.specs.declared.Listed.{Listed}
-use Rattle.expressions.specs.Answers.{listed, listingOf, Lists}
+use Rattle.listing.specs.Listing.{plainLabel, listing}
+use Rattle.listing.specs.declared.Listed.{Listed}
+use Rattle.listing.specs.Answers.{listed, listingOf, Lists}
 use Rattle.expressions.proofs.Words.{table-words}
 use Rattle.elimination.specs.declared.Wholly.{Wholly}
-use Rattle.elimination.specs.Stages.{converted}
-use Rattle.elimination.specs.Answers.{wholeNodes, writtenTo, allZero, refusedWhole, whollyDone, WhollyAnswered}
+use Rattle.theory.specs.Stages.{converted}
+use Rattle.elimination.specs.Answers.{wholeNodes, writtenTo, refusedWhole, whollyDone, WhollyAnswered}
+use Rattle.ground.specs.Writing.{allZero}
 use Rattle.elimination.proofs.Outcomes.{wholly-sound}
 use Rattle.front.specs.declared.Printing.{Printing}
 use Rattle.front.specs.Text.{refusedLine, convertedListing, textOf, printedText}
@@ -127,7 +128,7 @@ module _ (file nodes after : List ℕ) (r : Wholly) (w : WhollyAnswered file nod
 
     module _ (left out bytes : List ℕ) (p : Printing) (x : Refuses (r .refusal .number) after left out bytes p) where
       pub prints-refused : Prints file nodes left out bytes p
-      unfolding allZero nodesLeft
+      unfolding nodesLeft
       prints-refused = go (verdict file) refl
         where
           room : (number offset : ℕ) → verdict file ≡ fault number offset → Dec (length out < 10) → Prints file nodes left out bytes p
@@ -186,7 +187,6 @@ module _ (file nodes after : List ℕ) (r : Wholly) (w : WhollyAnswered file nod
 
       -- the listing does not fit the bytes, and the words are made 0
       pub prints-no-bytes : (left : List ℕ) → left ≡ replicate (length after) 0 → length after ≡ length nodes → (l .refusal .number ≡ 0 → ⊥) → Prints file nodes left out bytes (printing 6 0)
-      unfolding allZero
       prints-no-bytes left z same some = when-done (λ held e fits. go held e fits (decLt (length out) (length (printedText file))))
         where
           go : (held : Held) (e : verdict file ≡ holds held) (fits : length (converted held .table) ≤ wholeNodes nodes) → Dec (length out < length (printedText file)) → Prints file nodes left out bytes (printing 6 0)

@@ -5,8 +5,8 @@ use mathlib.Core.Path.{_≡_, sym, _∙_, ap}
 use mathlib.Core.List.{List, [], _∷_, _++_}
 use lib.ListN.{length, drop}
 use lib.Seq.{sets, sets-eq}
-use Rattle.expressions.specs.Listing.{spaced, line}
-use Rattle.expressions.proofs.Decimal.{decimal-one}
+use Rattle.listing.specs.Listing.{spaced, line}
+use Rattle.ground.proofs.Decimal.{decimal-one}
 use Rattle.front.specs.Text.{refusedLine}
 
 -- the line of a number with one digit

@@ -1,3 +1,5 @@
+-- what a reader must believe
 pub mod Text
 pub mod Answers
+-- for the contracts of private functions
 pub mod Inside

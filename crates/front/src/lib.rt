@@ -1,13 +1,21 @@
 // From a file's bytes to the bytes that the program prints: the listing of the converted automaton, or "refused N".
 ghost use Rattle.front.specs.Answers.{Prints};
 use automaton::Refusal;
+use expressions::NODE_WIDTH;
 
 mod text;
 
-// Words and bytes enough for any file: with so many, `printed` never answers 6.
-pub const NODE_WORDS: usize = 6 * 1393;
+// The most nodes that a conversion makes, and the bytes of the longest lines of its listing.
+const MOST_MADE: usize = 1393;
 
-pub const TEXT_BYTES: usize = 30 * 1393 + 12;
+const LONGEST_LINE: usize = 30;
+
+const LONGEST_ANSWER: usize = 12;
+
+// Words and bytes enough for any file: with so many, `printed` never answers 6.
+pub const NODE_WORDS: usize = NODE_WIDTH * MOST_MADE;
+
+pub const TEXT_BYTES: usize = LONGEST_LINE * MOST_MADE + LONGEST_ANSWER;
 
 // What `printed` answers: 0 and the length of the text, or 6 and 0. A file's refusal is no number here: it stands in the text.
 #[repr(C)]
@@ -24,24 +32,24 @@ pub fn printed(file: &[u8], nodes: &mut [u32], out: &mut [u8]) -> Printing
     let number = made.refusal.number;
     if number == 6 {
         return Printing {
-            refusal: Refusal { number: 6 },
+            refusal: Refusal::SHORT,
             length: 0,
         };
     }
     if number != 0 {
         return text::refuse(number, nodes, out);
     }
-    let listed = expressions::list(&nodes[..], made.nodes, made.answer, out);
+    let listed = listing::list(&nodes[..], made.nodes, made.answer, out);
     // The table of a conversion is sound, so a number here says that the bytes are too few.
     if listed.refusal.number != 0 {
-        text::zero(nodes);
+        ground::zero(nodes);
         return Printing {
-            refusal: Refusal { number: 6 },
+            refusal: Refusal::SHORT,
             length: 0,
         };
     }
     Printing {
-        refusal: Refusal { number: 0 },
+        refusal: Refusal::DONE,
         length: listed.length,
     }
 }

@@ -1,8 +1,8 @@
-// The line "refused N", and words that are all 0.
+// The line "refused N".
 ghost use mathlib.Core.Path.{_≡_};
 ghost use mathlib.Core.List.{_++_};
 ghost use Prim.Native.Nat.{_<_, _≤_};
-ghost use lib.ListN.{length, drop, replicate};
+ghost use lib.ListN.{length, drop};
 ghost use Rattle.front.specs.Text.{refusedLine};
 ghost use Rattle.front.specs.Inside.{Refuses};
 use crate::Printing;
@@ -13,7 +13,8 @@ const LINE: usize = 10;
 
 // The line "refused N", from the first byte on.
 fn put_refused(out: &mut [u8], number: u8)
-    requires { ⌜ (number < 10) × (10 ≤ length (now out)) ⌝ }
+    requires { ⌜ number < 10 ⌝ }
+    requires { ⌜ 10 ≤ length (now out) ⌝ }
     ensures { λ _. ⌜ now (out .exit) ≡ refusedLine number ++ drop 10 (now (out .entry)) ⌝ }
 {
     out[0] = b'r';
@@ -28,32 +29,21 @@ fn put_refused(out: &mut [u8], number: u8)
     out[9] = b'\n';
 }
 
-// Every word 0.
-pub fn zero(words: &mut [u32])
-    ensures { λ _. ⌜ now (words .exit) ≡ replicate (length (now (words .entry))) 0 ⌝ }
-{
-    let mut i: usize = 0;
-    while i < words.len() {
-        words[i] = 0;
-        i += 1;
-    }
-}
-
 // The text for a file that is refused with this number; where it does not fit the bytes, the words are all 0.
 pub fn refuse(number: u8, nodes: &mut [u32], out: &mut [u8]) -> Printing
     requires { ⌜ number < 10 ⌝ }
     ensures { λ r. ⌜ Refuses number (now (nodes .entry)) (now (nodes .exit)) (now (out .entry)) (now (out .exit)) r ⌝ }
 {
     if out.len() < LINE {
-        zero(nodes);
+        ground::zero(nodes);
         return Printing {
-            refusal: Refusal { number: 6 },
+            refusal: Refusal::SHORT,
             length: 0,
         };
     }
     put_refused(out, number);
     Printing {
-        refusal: Refusal { number: 0 },
+        refusal: Refusal::DONE,
         length: LINE,
     }
 }

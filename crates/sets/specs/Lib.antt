@@ -1,1 +1,3 @@
+-- what a reader must believe
 pub mod Members
+pub mod Promises

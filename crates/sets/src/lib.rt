@@ -1,6 +1,5 @@
-// Sets of states, as document 01 has them: sixteen bits, bit i for state i. Any number is taken as a state; 16 and more is in no set.
-ghost use mathlib.Core.Path.{_≡_};
-ghost use Rattle.sets.specs.Members.{has, emptySet, oneSet, union, without, size, stateWidth};
+// Sets of states: sixteen bits, bit i for state i. Any number is taken as a state; 16 and more is in no set.
+ghost use Rattle.sets.specs.Promises.{IsEmpty, IsOne, IsOfWord, IsUnion, SaysMember, SaysPast, IsWithout, IsCount};
 
 #[repr(C)]
 pub struct StateSet(pub u16);
@@ -10,14 +9,14 @@ impl StateSet {
 
     // The empty set.
     pub fn empty() -> Self
-        ensures { λ r. ⌜ r .0 ≡ emptySet stateWidth ⌝ }
+        ensures { λ r. ⌜ IsEmpty r ⌝ }
     {
         StateSet::EMPTY
     }
 
     // The set of one state, which is empty where the number is no state.
     pub fn one(state: u32) -> Self
-        ensures { λ r. ⌜ r .0 ≡ oneSet stateWidth state ⌝ }
+        ensures { λ r. ⌜ IsOne state r ⌝ }
     {
         if state < 16 {
             StateSet(1 << state)
@@ -26,16 +25,23 @@ impl StateSet {
         }
     }
 
+    // The states that a word has as a set: its low sixteen bits.
+    pub fn of_word(word: u32) -> Self
+        ensures { λ r. ⌜ IsOfWord word r ⌝ }
+    {
+        StateSet((word % 65536) as u16)
+    }
+
     // What is in this set or in the other.
     pub fn union(self, other: StateSet) -> Self
-        ensures { λ r. ⌜ r .0 ≡ union stateWidth (self .0) (other .0) ⌝ }
+        ensures { λ r. ⌜ IsUnion self other r ⌝ }
     {
         StateSet(self.0 | other.0)
     }
 
     // Is the state in this set?
     pub fn has(self, state: u32) -> bool
-        ensures { λ r. ⌜ r ≡ has (self .0) state ⌝ }
+        ensures { λ r. ⌜ SaysMember self state r ⌝ }
     {
         if state < 16 {
             (self.0 >> state) % 2 == 1
@@ -44,9 +50,19 @@ impl StateSet {
         }
     }
 
+    // Has this set a member at or past the count?
+    pub fn past(self, count: u8) -> bool
+        ensures { λ r. ⌜ SaysPast self count r ⌝ }
+    {
+        if 16 <= count {
+            return false;
+        }
+        self.0 >> count != 0
+    }
+
     // This set with one state taken out.
     pub fn without(self, state: u32) -> Self
-        ensures { λ r. ⌜ r .0 ≡ without stateWidth (self .0) state ⌝ }
+        ensures { λ r. ⌜ IsWithout self state r ⌝ }
     {
         let bits = self.0;
         if state < 16 {
@@ -58,7 +74,7 @@ impl StateSet {
 
     // How many states are in this set.
     pub fn count(self) -> u32
-        ensures { λ r. ⌜ r ≡ size stateWidth (self .0) ⌝ }
+        ensures { λ r. ⌜ IsCount self r ⌝ }
     {
         u16::count_ones(self.0)
     }

@@ -13,17 +13,18 @@ use lib.Pow.{pow-mono}
 use borrow.Author.Tests.{le-leb, leb-true, leb-false}
 use Rattle.sets.specs.Members.{has, stateWidth}
 use Rattle.sets.proofs.Bits.{same-members, has-high}
+use Rattle.automaton.specs.Refusals.{refusal, noRefusal}
 use Rattle.automaton.specs.Held.{Held, Valid}
 use Rattle.automaton.specs.Checks.{Verdict, verdict, holds, fault}
 use Rattle.trees.specs.declared.ReachedStates.{ReachedStates}
 use Rattle.trees.specs.declared.ProductiveStates.{ProductiveStates}
-use Rattle.trees.specs.Trees.{Tree, hole, node}
+use Rattle.meaning.specs.Trees.{Tree, hole, node}
 use Rattle.trees.specs.Words.{prefix, OfKnown, KnownIn, arityIn, mostWords, IsTree, NoTree}
 use Rattle.trees.specs.Runs.{Reaches, Accepted}
 use Rattle.trees.specs.Promises.{noRun, RunOf, RunPromise, StatesOf, ProductivePromise}
 use Rattle.trees.specs.Piles.{meets, Pile, broken, pile, pileOf, runTo, pileAnswer, wordsAnswer}
-use Rattle.automaton.proofs.Truth.{and-parts, and-both, same-test}
-use Rattle.trees.proofs.Lists.{below-pick, below-some}
+use Rattle.ground.proofs.Truth.{and-parts, and-both, same-test}
+use Rattle.ground.proofs.Lists.{below-pick, below-some}
 use Rattle.trees.proofs.Reaching.{reachedSet, holds-set, valid-aimed}
 use Rattle.trees.proofs.Piling.{pile-of-tree, tree-of-pile}
 
@@ -63,11 +64,11 @@ decide-tree held words = go (leb (length words) mostWords) (pileOf held words) r
 
 -- ---- the answer of the pile
 
-pub answer-no-tree : (held : Held) (words : List ℕ) → NoTree held words → wordsAnswer held words ≡ noRun 7
+pub answer-no-tree : (held : Held) (words : List ℕ) → NoTree held words → wordsAnswer held words ≡ noRun (refusal 7)
 unfolding wordsAnswer pileAnswer
 answer-no-tree held words none = go (leb (length words) mostWords) (pileOf held words) refl refl
   where
-    go : (b : Bool) (p : Pile) → leb (length words) mostWords ≡ b → pileOf held words ≡ p → wordsAnswer held words ≡ noRun 7
+    go : (b : Bool) (p : Pile) → leb (length words) mostWords ≡ b → pileOf held words ≡ p → wordsAnswer held words ≡ noRun (refusal 7)
     go false p d e = rw d
     go true broken d e = rw (d, e)
     go true (pile []) d e = rw (d, e)
@@ -129,12 +130,12 @@ one-set a b same =
 
 same-run : (held : Held) (t : Tree) (r s : ReachedStates) → RunOf held t r → RunOf held t s → r ≡ s
 same-run held t r s a b =
-    let number : r .refusal .number ≡ s .refusal .number = a .done ∙ sym (b .done) in
+    let given : r .refusal ≡ s .refusal = a .done ∙ sym (b .done) in
     let states : r .states .0 ≡ s .states .0 =
     one-set (r .states .0) (s .states .0) (λ q. (λ e. b .reached q .1 (a .reached q .0 e), λ e. a .reached q .1 (b .reached q .0 e)))
     in
     let says : r .yes ≡ s .yes = same-test (r .yes) (s .yes) (λ e. b .accepted .1 (a .accepted .0 e)) (λ e. a .accepted .1 (b .accepted .0 e)) in
-    λ i. record { refusal = record { number = number i }; states = record { 0 = states i }; yes = says i }
+    λ i. record { refusal = given i; states = record { 0 = states i }; yes = says i }
 
 -- two answers that keep the promise of `run` on one input are equal
 pub run-unique : (file words : List ℕ) (r s : ReachedStates) → RunPromise file words r → RunPromise file words s → r ≡ s
@@ -154,11 +155,11 @@ productive-unique file r s a b = go (verdict file) refl
   where
     on-held : (held : Held) → StatesOf held r → StatesOf held s → r ≡ s
     on-held held c d =
-        let number : r .refusal .number ≡ s .refusal .number = c .done ∙ sym (d .done) in
+        let given : r .refusal ≡ s .refusal = c .done ∙ sym (d .done) in
         let states : r .states .0 ≡ s .states .0 =
         one-set (r .states .0) (s .states .0) (λ q. (λ e. d .productive q .1 (c .productive q .0 e), λ e. c .productive q .1 (d .productive q .0 e)))
         in
-        λ i. record { refusal = record { number = number i }; states = record { 0 = states i } }
+        λ i. record { refusal = given i; states = record { 0 = states i } }
 
     go : (v : Verdict) → verdict file ≡ v → r ≡ s
     go (holds held) e = on-held held (a .found held e) (b .found held e)

@@ -13,11 +13,12 @@ use Rattle.sets.proofs.Bits.{has-pow, has-zero, has-setOf}
 use Rattle.automaton.specs.Held.{Rule, Held, ValidRule, Valid}
 use Rattle.trees.specs.declared.columns.Columns.{Columns}
 use Rattle.trees.specs.Words.{arityIn}
-use Rattle.trees.specs.Piles.{any, anyBelow, eachIn, gives, reachedFrom}
+use Rattle.ground.specs.Lists.{anyOf, anyBelow}
+use Rattle.trees.specs.Piles.{eachIn, gives, reachedFrom}
 use Rattle.trees.specs.Columns.{need, column, Tabled, Targets, within, fires, Scanned}
 use Rattle.automaton.proofs.Files.{all-get}
-use Rattle.automaton.proofs.Truth.{and-parts, and-both, same-test, eqb-turned}
-use Rattle.trees.proofs.Lists.{any-pick, any-mem, any-same, below-pick, below-some, of-all, member-at, place-of, getD-map-inside, getD-filled}
+use Rattle.ground.proofs.Truth.{and-parts, and-both, same-test, eqb-turned}
+use Rattle.ground.proofs.Lists.{any-pick, any-mem, any-same, below-pick, below-some, of-all, member-at, place-of, getD-map-inside, getD-filled}
 use Rattle.trees.proofs.Reaching.{Aimed, valid-aimed}
 use Rattle.trees.proofs.Answers.{one-set}
 use Rattle.trees.proofs.Scanning.{within-none, within-one}
@@ -40,9 +41,9 @@ met rule a b c = within (need 0 rule) a && (within (need 1 rule) b && within (ne
 module _ (rules : List Rule) (few : length rules ≤ 64) (t : Columns) (tabled : Tabled rules t) (symbols : List ℕ) (f : ℕ) (on : Rule → Bool) (d : Rule)
     (tested : (i : ℕ) → i < length rules → eqb (getD symbols i 0) f ≡ on (getD rules i d)) where
   pub scanned : (a b c r : ℕ) → Scanned symbols (t .firsts) (t .seconds) (t .thirds) (t .targets) f a b c r
-      → (q : ℕ) → has r q ≡ any (λ rule. on rule && (eqb (rule .target) q && met rule a b c)) rules
+      → (q : ℕ) → has r q ≡ anyOf (λ rule. on rule && (eqb (rule .target) q && met rule a b c)) rules
   unfolding fires
-  scanned a b c r scan q = scan q ∙ same-test (anyBelow 64 here) (any row rules) there back
+  scanned a b c r scan q = scan q ∙ same-test (anyBelow 64 here) (anyOf row rules) there back
     where
       here : ℕ → Bool
       here i = fires symbols (t .firsts) (t .seconds) (t .thirds) f a b c i && has (getD (t .targets) i 0) q
@@ -77,16 +78,16 @@ module _ (rules : List Rule) (few : length rules ≤ 64) (t : Columns) (tabled :
           ap₂ _&&_ (ap₂ _&&_ (tested i h) (ap₂ _&&_ (ap (λ (n : ℕ). within n a) (first i h)) (ap₂ _&&_ (ap (λ (n : ℕ). within n b) (second i h)) (ap (λ (n : ℕ). within n c) (third i h))))) (target i h)
           ∙ regroup (on (getD rules i d)) (met (getD rules i d) a b c) (eqb (getD rules i d .target) q)
 
-      there : anyBelow 64 here ≡ true → any row rules ≡ true
+      there : anyBelow 64 here ≡ true → anyOf row rules ≡ true
       there e = let p = below-pick 64 here e in go (p .0) (p .1) (p .2) (decLt (p .0) (length rules))
         where
-          go : (i : ℕ) → i < 64 → here i ≡ true → Dec (i < length rules) → any row rules ≡ true
+          go : (i : ℕ) → i < 64 → here i ≡ true → Dec (i < length rules) → anyOf row rules ≡ true
           go i small passes (yes h) = any-mem row (getD rules i d) rules (member-at rules i d h) (sym (same i h) ∙ passes)
           go i small passes (no h) =
               let none : getD (t .targets) i 0 ≡ 0 = ap (λ (l : List ℕ). getD l i 0) (tabled .targets) ∙ column-past rules few (λ rule. 2 ^ rule .target) i small (omega arith) in
               absurd (false≢true (sym (ap (λ (n : ℕ). has n q) none ∙ has-zero q) ∙ and-parts (fires symbols (t .firsts) (t .seconds) (t .thirds) f a b c i) (has (getD (t .targets) i 0) q) passes .1))
 
-      back : any row rules ≡ true → anyBelow 64 here ≡ true
+      back : anyOf row rules ≡ true → anyBelow 64 here ≡ true
       back e =
           let p = any-pick row rules e in
           let at = place-of (p .0) rules d (p .1) in
@@ -111,12 +112,12 @@ met-each rule a b c h = go (rule .sources) h
     go (x ∷ (y ∷ (z ∷ (w ∷ ws)))) l = absurd (omega arith)
 
 -- a number that has the members of a reached set is that set
-pub reached-number : (rules : List Rule) (f r : ℕ) (sets : List ℕ) → Aimed rules → ((q : ℕ) → has r q ≡ any (gives f sets q) rules) → r ≡ reachedFrom rules f sets
+pub reached-number : (rules : List Rule) (f r : ℕ) (sets : List ℕ) → Aimed rules → ((q : ℕ) → has r q ≡ anyOf (gives f sets q) rules) → r ≡ reachedFrom rules f sets
 unfolding reachedFrom gives
 reached-number rules f r sets aimed e = one-set r (setOf stateWidth test) (λ q. (there q, back q))
   where
     test : ℕ → Bool
-    test q = any (gives f sets q) rules
+    test q = anyOf (gives f sets q) rules
 
     there : (q : ℕ) → has r q ≡ true → has (setOf stateWidth test) q ≡ true
     there q h =
@@ -163,7 +164,7 @@ module _ (held : Held) (v : Valid held) where
               ap (λ (x : Bool). eqb (rule .target) q && x)
               (met-each rule a b c (omega (arith, long, arity-three held f v)) ∙ ap (λ (n : ℕ). eachIn (rule .sources) (take n (a ∷ (b ∷ (c ∷ []))))) long)
 
-      members : (q : ℕ) → has r q ≡ any (gives f sets q) (held .rules)
+      members : (q : ℕ) → has r q ≡ anyOf (gives f sets q) (held .rules)
       members q =
           scanned (held .rules) (v .few-rules) t tabled (t .symbols) f (λ rule. eqb (rule .symbol) f) none tested a b c r scan q
           ∙ any-same (λ rule. eqb (rule .symbol) f && (eqb (rule .target) q && met rule a b c)) (gives f sets q) (held .rules) (agree q)
@@ -187,5 +188,5 @@ module _ (held : Held) (v : Valid held) where
               sym (and-true (eqb (rule .target) q))
               ∙ ap (λ (x : Bool). eqb (rule .target) q && x) (sym (none-in (rule .sources) (valid-member rule m .suited ∙ ap (arityIn held) (eqb-true (rule .symbol) f e) ∙ leaf)))
 
-      members : (q : ℕ) → has (getD sets f 0) q ≡ any (gives f [] q) (held .rules)
+      members : (q : ℕ) → has (getD sets f 0) q ≡ anyOf (gives f [] q) (held .rules)
       members q = targets f q h ∙ any-same (λ rule. eqb (rule .symbol) f && eqb (rule .target) q) (gives f [] q) (held .rules) (agree q)

@@ -1,4 +1,3 @@
-pub mod Lists
 pub mod Spelling
 pub mod Reaching
 pub mod Piling

@@ -9,7 +9,7 @@ use lib.ListN.{length, take, drop}
 use lib.Seq.{take-at, drop-at}
 use borrow.Author.Tests.{lt-ltb, le-ltb, le-leb, lt-leb, ltb-true, leb-true}
 use Rattle.automaton.specs.Held.{Rule, Held}
-use Rattle.trees.specs.Trees.{Tree, Forest, hole, node, []ᶠ, _∷ᶠ_}
+use Rattle.meaning.specs.Trees.{Tree, Forest, hole, node, []ᶠ, _∷ᶠ_}
 use Rattle.trees.specs.Words.{prefix, prefixes, count, OfKnown, AllOfKnown, KnownIn, arityIn}
 use Rattle.trees.specs.Piles.{reachedFrom, Pile, broken, pile, put, pileOf}
 use Rattle.trees.proofs.Reaching.{reachedSet, reachedSets}

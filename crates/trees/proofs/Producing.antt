@@ -11,15 +11,16 @@ use lib.ListN.{length, take, replicate, getD-replicate}
 use borrow.Author.Tests.{eqb-true, eq-eqb}
 use Rattle.sets.specs.Members.{has}
 use Rattle.sets.proofs.Bits.{has-or}
-use Rattle.automaton.specs.Held.{Rule, Held, All, Valid}
+use Rattle.automaton.specs.Held.{Rule, Held, Valid}
+use Rattle.ground.specs.Lists.{All, anyOf}
 use Rattle.trees.specs.declared.columns.Columns.{Columns}
-use Rattle.trees.specs.Trees.{Tree, Forest, hole, node, []ᶠ, _∷ᶠ_}
+use Rattle.meaning.specs.Trees.{Tree, Forest, hole, node, []ᶠ, _∷ᶠ_}
 use Rattle.trees.specs.Words.{count, OfKnown, AllOfKnown, KnownIn, arityIn}
 use Rattle.trees.specs.Runs.{Reaches, ReachesEach, Productive}
-use Rattle.trees.specs.Piles.{any, eachIn}
+use Rattle.trees.specs.Piles.{eachIn}
 use Rattle.trees.specs.Columns.{Tabled, Scanned}
-use Rattle.automaton.proofs.Truth.{and-parts, and-both, or-right}
-use Rattle.trees.proofs.Lists.{any-pick, any-mem, all-map}
+use Rattle.ground.proofs.Truth.{and-parts, and-both, or-right}
+use Rattle.ground.proofs.Lists.{any-pick, any-mem, all-map}
 use Rattle.trees.proofs.Firing.{met, met-each, scanned, arity-three, valid-member}
 
 -- a set of states that is closed under the rows
@@ -90,7 +91,7 @@ module _ (held : Held) (v : Valid held) (t : Columns) (tabled : Tabled (held .ru
   few-sources : (rule : Rule) → List·Memᴰ rule (held .rules) → length (rule .sources) ≤ 3
   few-sources rule m = omega (arith, valid-member held v rule m .suited, arity-three held (rule .symbol) v)
 
-  found-has : (q : ℕ) → has found q ≡ any (row q) (held .rules)
+  found-has : (q : ℕ) → has found q ≡ anyOf (row q) (held .rules)
   unfolding row
   found-has q =
       scanned (held .rules) (v .few-rules) t tabled (replicate 64 0) 0 (λ rule. true) (record { symbol = 0; target = 0; sources = [] })

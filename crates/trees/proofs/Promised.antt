@@ -5,25 +5,30 @@ use mathlib.Core.List.{List}
 use Rattle.automaton.specs.declared.Automaton.{Automaton}
 use Rattle.automaton.specs.declared.Reading.{Reading}
 use Rattle.automaton.specs.Held.{Held, Valid}
+use Rattle.automaton.specs.Refusals.{refusal, faultRefusal}
 use Rattle.automaton.specs.Checks.{Verdict, verdict, holds, fault}
 use Rattle.automaton.specs.Answers.{heldBy, readingOf, readAnswer}
 use Rattle.automaton.proofs.Faults.{fault-some, one-held, never-both}
-use Rattle.automaton.proofs.Laws.{held-placed}
+use Rattle.automaton.proofs.Values.{held-placed}
 use Rattle.automaton.proofs.Pair.{verdict-valid}
 use Rattle.trees.specs.declared.ReachedStates.{ReachedStates}
 use Rattle.trees.specs.declared.ProductiveStates.{ProductiveStates}
-use Rattle.trees.specs.Trees.{Tree}
+use Rattle.meaning.specs.Trees.{Tree}
 use Rattle.trees.specs.Words.{IsTree, NoTree}
 use Rattle.trees.specs.Promises.{noRun, RunOf, RunPromise, noStates, StatesOf, ProductivePromise}
 use Rattle.trees.specs.Piles.{wordsAnswer}
 use Rattle.trees.proofs.Answers.{answer-no-tree, answer-tree, run-to, run-unique}
 
+-- a file has one fault, so one refusal
+fault-same : (file : List ℕ) (number offset n o : ℕ) → verdict file ≡ fault number offset → verdict file ≡ fault n o → faultRefusal number offset ≡ faultRefusal n o
+fault-same file number offset n o e d = let same : number ≡ n = cc in ap refusal same
+
 -- ---- the run
 
-pub run-fault : (file words : List ℕ) (number offset : ℕ) → verdict file ≡ fault number offset → RunPromise file words (noRun number)
+pub run-fault : (file words : List ℕ) (number offset : ℕ) → verdict file ≡ fault number offset → RunPromise file words (noRun (faultRefusal number offset))
 run-fault file words number offset e =
     record {
-      faulty = λ n o d. let same : number ≡ n = cc in ap noRun same;
+      faulty = λ n o d. let e1 = fault-same file number offset n o e d in ap noRun e1;
       no-tree = λ held d none. absurd (never-both file held number offset d e);
       one-tree = λ held tree d is. absurd (never-both file held number offset d e);
     }
@@ -45,7 +50,7 @@ run-held file words held e =
 -- the answer of a run
 unfoldable pub answerFor : Verdict → List ℕ → ReachedStates
 answerFor (holds held) words = wordsAnswer held words
-answerFor (fault number offset) words = noRun number
+answerFor (fault number offset) words = noRun (faultRefusal number offset)
 
 unfoldable pub runAnswer : List ℕ → List ℕ → ReachedStates
 runAnswer file words = answerFor (verdict file) words
@@ -64,10 +69,10 @@ run-answer file words r ran = run-unique file words r (runAnswer file words) ran
 
 -- ---- the productive states
 
-pub productive-fault : (file : List ℕ) (number offset : ℕ) → verdict file ≡ fault number offset → ProductivePromise file (noStates number)
+pub productive-fault : (file : List ℕ) (number offset : ℕ) → verdict file ≡ fault number offset → ProductivePromise file (noStates (faultRefusal number offset))
 productive-fault file number offset e =
     record {
-      faulty = λ n o d. let same : number ≡ n = cc in ap noStates same;
+      faulty = λ n o d. let e1 = fault-same file number offset n o e d in ap noStates e1;
       found = λ held d. absurd (never-both file held number offset d e);
     }
 
@@ -77,31 +82,3 @@ productive-held file held answer e states =
       faulty = λ n o d. absurd (never-both file held n o e d);
       found = λ other d. subst (λ (h : Held). StatesOf h answer) (one-held file held other e d) states;
     }
-
--- ---- what the reader hands over
-
-pub read-fault : (file : List ℕ) (r : Reading) → r ≡ readAnswer file → (r .refusal .number ≡ 0 → ⊥) → (offset : ℕ) × (verdict file ≡ fault (r .refusal .number) offset)
-unfolding readAnswer readingOf
-read-fault file r e n = go (verdict file) refl
-  where
-    go : (v : Verdict) → verdict file ≡ v → (offset : ℕ) × (verdict file ≡ fault (r .refusal .number) offset)
-    go (holds held) d = absurd (n (ap (λ (x : Reading). x .refusal .number) (e ∙ ap readingOf d)))
-    go (fault number offset) d = (offset, d ∙ ap (λ (m : ℕ). fault m offset) (sym (ap (λ (x : Reading). x .refusal .number) (e ∙ ap readingOf d))))
-
--- what a file holds, and that the value says so
-pub record Handed (file : List ℕ) (a : Automaton) : Type 0 where
-  pub held : Held
-  pub in-file : verdict file ≡ holds held
-  pub said : heldBy a ≡ held
-  pub valid : Valid (heldBy a)
-
-pub read-held : (file : List ℕ) (r : Reading) → r ≡ readAnswer file → r .refusal .number ≡ 0 → Handed file (r .automaton)
-unfolding readAnswer readingOf
-read-held file r e z = go (verdict file) refl
-  where
-    go : (v : Verdict) → verdict file ≡ v → Handed file (r .automaton)
-    go (holds held) d =
-        let valid = verdict-valid file held d in
-        let said : heldBy (r .automaton) ≡ held = ap (λ (x : Reading). heldBy (x .automaton)) (e ∙ ap readingOf d) ∙ held-placed held valid in
-        record { held = held; in-file = d; said = said; valid = rw said valid }
-    go (fault number offset) d = absurd (fault-some file number offset d (sym (ap (λ (x : Reading). x .refusal .number) (e ∙ ap readingOf d)) ∙ z))

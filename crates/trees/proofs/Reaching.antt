@@ -9,12 +9,13 @@ use lib.Dec.{ltb, eqb}
 use borrow.Author.Tests.{eqb-true, eq-eqb, lt-ltb}
 use Rattle.sets.specs.Members.{has, stateWidth}
 use Rattle.sets.proofs.Bits.{has-setOf, has-zero}
-use Rattle.automaton.specs.Held.{Rule, Held, All, ValidRule, Valid}
-use Rattle.trees.specs.Trees.{Tree, Forest, hole, node, []ᶠ, _∷ᶠ_}
+use Rattle.automaton.specs.Held.{Rule, Held, ValidRule, Valid}
+use Rattle.ground.specs.Lists.{All, anyOf}
+use Rattle.meaning.specs.Trees.{Tree, Forest, hole, node, []ᶠ, _∷ᶠ_}
 use Rattle.trees.specs.Runs.{Reaches, ReachesEach}
-use Rattle.trees.specs.Piles.{any, eachIn, gives, reachedFrom}
-use Rattle.automaton.proofs.Truth.{and-parts, and-both}
-use Rattle.trees.proofs.Lists.{any-pick, any-mem, of-all}
+use Rattle.trees.specs.Piles.{eachIn, gives, reachedFrom}
+use Rattle.ground.proofs.Truth.{and-parts, and-both}
+use Rattle.ground.proofs.Lists.{any-pick, any-mem, of-all}
 
 -- ---- sets of reached states
 
@@ -50,7 +51,7 @@ holds-node rules f ts xs aimed h q = (there, back)
   where
     there : has (reachedFrom rules f xs) q ≡ true → Reaches rules (node f ts) q
     there e =
-        let r = any-pick (gives f xs q) rules (and-parts (ltb q stateWidth) (any (gives f xs q) rules) (sym (has-setOf stateWidth (λ p. any (gives f xs p) rules) q) ∙ e) .1) in
+        let r = any-pick (gives f xs q) rules (and-parts (ltb q stateWidth) (anyOf (gives f xs q) rules) (sym (has-setOf stateWidth (λ p. anyOf (gives f xs p) rules) q) ∙ e) .1) in
         let rule = r .0 in
         let one = and-parts (eqb (rule .symbol) f) (eqb (rule .target) q && eachIn (rule .sources) xs) (r .2) in
         let two = and-parts (eqb (rule .target) q) (eachIn (rule .sources) xs) (one .1) in
@@ -64,8 +65,8 @@ holds-node rules f ts xs aimed h q = (there, back)
         and-both (eqb (rule .symbol) f) (eqb (rule .target) q && eachIn (rule .sources) xs) (eq-eqb (rule .symbol) f (r .2))
         (and-both (eqb (rule .target) q) (eachIn (rule .sources) xs) (eq-eqb (rule .target) q (r .3)) (each-in rules ts xs (rule .sources) h .1 (r .4)))
         in
-        has-setOf stateWidth (λ p. any (gives f xs p) rules) q
-        ∙ and-both (ltb q stateWidth) (any (gives f xs q) rules) (lt-ltb q stateWidth small) (any-mem (gives f xs q) rule rules (r .1) passes)
+        has-setOf stateWidth (λ p. anyOf (gives f xs p) rules) q
+        ∙ and-both (ltb q stateWidth) (anyOf (gives f xs q) rules) (lt-ltb q stateWidth small) (any-mem (gives f xs q) rule rules (r .1) passes)
 
 -- ---- the reached set of a tree, computed
 

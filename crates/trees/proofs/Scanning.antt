@@ -14,8 +14,8 @@ use borrow.Author.Tests.{eqb-true, eq-eqb}
 use Rattle.sets.specs.Members.{has}
 use Rattle.sets.proofs.Bits.{has-or, has-and, has-pow, has-zero, same-members}
 use Rattle.trees.specs.Columns.{within, fires}
-use Rattle.trees.specs.Piles.{anyBelow}
-use Rattle.automaton.proofs.Truth.{and-parts, and-both, same-test}
+use Rattle.ground.specs.Lists.{anyBelow}
+use Rattle.ground.proofs.Truth.{and-parts, and-both, same-test}
 
 -- a union is empty where both are
 pub or-none : (u v : ℕ) → eqb (bitOr u v) 0 ≡ (eqb u 0 && eqb v 0)

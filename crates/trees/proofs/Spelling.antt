@@ -4,7 +4,7 @@ use native.Mathlib.Omega.{arith}
 use mathlib.Core.Path.{_≡_, refl, sym, _∙_, ap, ap₂}
 use mathlib.Core.List.{List, [], _++_, append-assoc, append-nil}
 use Rattle.automaton.specs.Held.{Held}
-use Rattle.trees.specs.Trees.{Tree, Forest, hole, node, []ᶠ, _∷ᶠ_}
+use Rattle.meaning.specs.Trees.{Tree, Forest, hole, node, []ᶠ, _∷ᶠ_}
 use Rattle.trees.specs.Words.{prefix, prefixes, count, OfKnown, AllOfKnown, KnownIn, arityIn, IsTree}
 
 module _ (Known : ℕ → Type 0) (arity : ℕ → ℕ) where

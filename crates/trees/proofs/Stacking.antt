@@ -12,11 +12,12 @@ use lib.Seq.{drop-cons, getD-set-same, getD-set-other}
 use borrow.Author.Tests.{eqb-true, eq-eqb}
 use Rattle.sets.specs.Members.{has, stateWidth}
 use Rattle.sets.proofs.Bits.{has-and, has-zero, same-members}
+use Rattle.automaton.specs.Refusals.{refusal, noRefusal}
 use Rattle.automaton.specs.Held.{Held}
 use Rattle.trees.specs.Words.{KnownIn, arityIn}
 use Rattle.trees.specs.Promises.{noRun}
 use Rattle.trees.specs.Piles.{meets, reachedFrom, broken, pile, put, pileOf, runTo, pileAnswer}
-use Rattle.trees.proofs.Lists.{below-pick, below-some}
+use Rattle.ground.proofs.Lists.{below-pick, below-some}
 use Rattle.trees.proofs.Piling.{put-done, put-unknown, put-few, stay-broken}
 
 -- the first `depth` places, from the top down
@@ -104,14 +105,14 @@ module _ (held : Held) (words : List ℕ) where
         ∙ ap (put held (getD words (i - 1) 0)) left
 
     -- what cannot be completed
-    all-broken : pileOf held (drop (i - 1) words) ≡ broken → pileAnswer held (pileOf held words) ≡ noRun 7
+    all-broken : pileOf held (drop (i - 1) words) ≡ broken → pileAnswer held (pileOf held words) ≡ noRun (refusal 7)
     unfolding pileAnswer
     all-broken e = ap (pileAnswer held) (ap (pileOf held) (sym (take-append-drop (i - 1) words)) ∙ stay-broken held (take (i - 1) words) (drop (i - 1) words) e)
 
-    pub unknown-word : length (held .arities) ≤ getD words (i - 1) 0 → pileAnswer held (pileOf held words) ≡ noRun 7
+    pub unknown-word : length (held .arities) ≤ getD words (i - 1) 0 → pileAnswer held (pileOf held words) ≡ noRun (refusal 7)
     unknown-word h = all-broken (word-first ∙ put-unknown held (getD words (i - 1) 0) (pile (down places depth)) h)
 
-    pub few-trees : depth < arityIn held (getD words (i - 1) 0) → pileAnswer held (pileOf held words) ≡ noRun 7
+    pub few-trees : depth < arityIn held (getD words (i - 1) 0) → pileAnswer held (pileOf held words) ≡ noRun (refusal 7)
     few-trees h = all-broken (word-first ∙ put-few held (getD words (i - 1) 0) (down places depth) (omega (arith, length-down places depth)))
 
     pub word-read : (base x : ℕ) → KnownIn held (getD words (i - 1) 0) → depth ≡ arityIn held (getD words (i - 1) 0) + base → base < length places
@@ -129,7 +130,7 @@ module _ (held : Held) (words : List ℕ) where
   unfolding pileAnswer down
   left-one places e = ap (pileAnswer held) e
 
-  pub left-other : (places : List ℕ) (depth : ℕ) → Left 0 places depth → (depth ≡ 1 → ⊥) → pileAnswer held (pileOf held words) ≡ noRun 7
+  pub left-other : (places : List ℕ) (depth : ℕ) → Left 0 places depth → (depth ≡ 1 → ⊥) → pileAnswer held (pileOf held words) ≡ noRun (refusal 7)
   unfolding pileAnswer down
   left-other places zero e n = ap (pileAnswer held) e
   left-other places (suc zero) e n = absurd (n refl)

@@ -13,11 +13,10 @@ use borrow.Author.Tests.{eqb-true, eqb-false}
 use Rattle.sets.specs.Members.{has}
 use Rattle.sets.proofs.Bits.{has-or, has-pow, has-zero}
 use Rattle.automaton.specs.Held.{Rule}
-use Rattle.automaton.specs.Answers.{filled}
-use Rattle.trees.specs.Piles.{any}
+use Rattle.ground.specs.Lists.{filled, anyOf}
 use Rattle.trees.specs.Columns.{column, Targets}
-use Rattle.automaton.proofs.Truth.{eqb-turned}
-use Rattle.trees.proofs.Lists.{any-last}
+use Rattle.ground.proofs.Truth.{eqb-turned}
+use Rattle.ground.proofs.Lists.{any-last}
 
 replicate-more : (n : ℕ) → 0 < n → replicate {A = ℕ} n 0 ≡ 0 ∷ replicate (n - 1) 0
 replicate-more zero h = absurd (omega arith)
@@ -35,7 +34,7 @@ column-more f xs rule h =
     ∙ ap₂ _++_ (sym (map-append f xs (rule ∷ []))) (ap (λ (n : ℕ). replicate n 0) left)
 
 pub targets-none : Targets [] (replicate 32 0)
-unfolding any
+unfolding anyOf
 targets-none f q h = ap (λ (n : ℕ). has n q) (getD-replicate 32 f 0 0 h) ∙ has-zero q
 
 module _ (rules : List Rule) (i : ℕ) (d : Rule) (h : i < length rules) where
@@ -51,8 +50,8 @@ module _ (rules : List Rule) (i : ℕ) (d : Rule) (h : i < length rules) where
       ∙ column-more f (take i rules) (getD rules i d) (omega arith)
       ∙ ap (column f) (sym next)
 
-  any-next : (test : Rule → Bool) → any test (take (i + 1) rules) ≡ (any test (take i rules) || test (getD rules i d))
-  any-next test = ap (any test) next ∙ any-last test (take i rules) (getD rules i d)
+  any-next : (test : Rule → Bool) → anyOf test (take (i + 1) rules) ≡ (anyOf test (take i rules) || test (getD rules i d))
+  any-next test = ap (anyOf test) next ∙ any-last test (take i rules) (getD rules i d)
 
   -- the targets of a symbol's rows, one row more
   pub targets-next : (sets : List ℕ) (s t bit : ℕ) → length sets ≡ 32 → s < 32 → bit ≡ 2 ^ t → getD rules i d .symbol ≡ s → getD rules i d .target ≡ t → Targets (take i rules) sets
@@ -68,7 +67,7 @@ module _ (rules : List Rule) (i : ℕ) (d : Rule) (h : i < length rules) where
       here : test rule ≡ (eqb s f && eqb t q)
       here = ap₂ (λ (m n : ℕ). eqb m f && eqb n q) es et
 
-      go : (b : Bool) → eqb s f ≡ b → has (getD (set sets s (bitOr (getD sets s 0) bit)) f 0) q ≡ any test (take (i + 1) rules)
+      go : (b : Bool) → eqb s f ≡ b → has (getD (set sets s (bitOr (getD sets s 0) bit)) f 0) q ≡ anyOf test (take (i + 1) rules)
       go true e =
           let same : s ≡ f = eqb-true s f e in
           ap (λ (n : ℕ). has (getD (set sets s (bitOr (getD sets s 0) bit)) n 0) q) (sym same)
@@ -78,6 +77,6 @@ module _ (rules : List Rule) (i : ℕ) (d : Rule) (h : i < length rules) where
           ∙ sym (any-next test)
       go false e =
           ap (λ (n : ℕ). has n q) (getD-set-other sets s f (bitOr (getD sets s 0) bit) 0 (λ x. eqb-false s f e (sym x)))
-          ∙ before f q hf ∙ sym (or-false (any test (take i rules)))
-          ∙ ap (λ (b : Bool). any test (take i rules) || b) (sym (here ∙ ap (λ (b : Bool). b && eqb t q) e))
+          ∙ before f q hf ∙ sym (or-false (anyOf test (take i rules)))
+          ∙ ap (λ (b : Bool). anyOf test (take i rules) || b) (sym (here ∙ ap (λ (b : Bool). b && eqb t q) e))
           ∙ sym (any-next test)

@@ -12,9 +12,10 @@ use borrow.Author.Tests.{ltb-true}
 use Rattle.automaton.specs.declared.Row.{Row}
 use Rattle.automaton.specs.declared.Automaton.{Automaton}
 use Rattle.automaton.specs.Held.{Rule, ValidRule, Valid}
-use Rattle.automaton.specs.Answers.{firsts, unusedRow, ruleHeld, heldBy}
+use Rattle.ground.specs.Lists.{firsts}
+use Rattle.automaton.specs.Answers.{unusedRow, ruleHeld, heldBy}
 use Rattle.trees.specs.Columns.{need}
-use Rattle.trees.proofs.Lists.{getD-inside, all-at, getD-firsts, length-firsts}
+use Rattle.ground.proofs.Lists.{getD-inside, all-at, getD-firsts, length-firsts}
 
 -- the row at an index, as the code reads it
 abbrev pub rowAt : Automaton → ℕ → Row

@@ -8,9 +8,8 @@ use lib.Dec.{ltb, eqb}
 use lib.ListN.{length, getD}
 use Rattle.sets.specs.Members.{has}
 use Rattle.automaton.specs.Held.{Rule}
-use Rattle.automaton.specs.Answers.{filled}
+use Rattle.ground.specs.Lists.{filled, anyOf, anyBelow}
 use Rattle.trees.specs.declared.columns.Columns.{Columns}
-use Rattle.trees.specs.Piles.{any, anyBelow}
 
 -- how many rows a file has at most
 abbrev pub mostRows : ℕ
@@ -33,7 +32,7 @@ pub record Tabled (rules : List Rule) (t : Columns) : Type 0 where
 
 -- for each symbol, the targets of its rows
 abbrev pub Targets : List Rule → List ℕ → Type 0
-Targets rules sets = (f q : ℕ) → f < 32 → has (getD sets f 0) q ≡ any (λ rule. eqb (rule .symbol) f && eqb (rule .target) q) rules
+Targets rules sets = (f q : ℕ) → f < 32 → has (getD sets f 0) q ≡ anyOf (λ rule. eqb (rule .symbol) f && eqb (rule .target) q) rules
 
 -- is each member of the one set in the other?
 unfoldable pub within : ℕ → ℕ → Bool

@@ -1,25 +1,17 @@
 -- How the run goes, for the contracts of the private functions: the words are read from the right end. Each symbol takes as many sets off a pile as its arity, and puts back the set that its node reaches.
 -- The promises do not rest on this page: that it finds the trees, and their reached states, is proved.
-use Prim.Native.Nat.{ℕ, zero, suc}
-use mathlib.Core.Bool.{Bool, true, false, cond, _&&_, _||_}
+use Prim.Native.Nat.{ℕ}
+use mathlib.Core.Bool.{Bool, true, false, cond, _&&_}
 use mathlib.Core.List.{List, [], _∷_}
 use lib.Dec.{leb, ltb, eqb}
 use lib.ListN.{length, take, drop}
 use Rattle.sets.specs.Members.{has, setOf, stateWidth}
+use Rattle.automaton.specs.Refusals.{refusal, noRefusal}
 use Rattle.automaton.specs.Held.{Rule, Held}
 use Rattle.trees.specs.declared.ReachedStates.{ReachedStates}
 use Rattle.trees.specs.Words.{arityIn, mostWords}
 use Rattle.trees.specs.Promises.{noRun}
-
--- does one of a list pass a test?
-unfoldable pub any : {A : Type 0} → (A → Bool) → List A → Bool
-any test [] = false
-any test (x ∷ xs) = test x || any test xs
-
--- does one of the numbers below a bound pass a test?
-unfoldable pub anyBelow : ℕ → (ℕ → Bool) → Bool
-anyBelow zero test = false
-anyBelow (suc n) test = anyBelow n test || test n
+use Rattle.ground.specs.Lists.{anyOf, anyBelow}
 
 -- have two sets of states a member in common?
 unfoldable pub meets : ℕ → ℕ → Bool
@@ -38,7 +30,7 @@ gives f sets q rule = eqb (rule .symbol) f && (eqb (rule .target) q && eachIn (r
 
 -- the set that symbol f reaches over subtrees that reach these sets
 unfoldable pub reachedFrom : List Rule → ℕ → List ℕ → ℕ
-reachedFrom rules f sets = setOf stateWidth (λ q. any (gives f sets q) rules)
+reachedFrom rules f sets = setOf stateWidth (λ q. anyOf (gives f sets q) rules)
 
 -- what the words read so far leave: the reached sets of so many trees, the leftmost on top; or words that no further word can complete
 pub data Pile : Type 0 where
@@ -61,14 +53,14 @@ pileOf held (f ∷ words) = put held f (pileOf held words)
 
 -- the run of a tree that reaches the set x, where these states are final
 unfoldable pub runTo : ℕ → ℕ → ReachedStates
-runTo finals x = record { refusal = record { number = 0 }; states = record { 0 = x }; yes = meets x finals }
+runTo finals x = record { refusal = noRefusal; states = record { 0 = x }; yes = meets x finals }
 
 -- one tree is left, or not
 unfoldable pub pileAnswer : Held → Pile → ReachedStates
-pileAnswer held broken = noRun 7
-pileAnswer held (pile []) = noRun 7
+pileAnswer held broken = noRun (refusal 7)
+pileAnswer held (pile []) = noRun (refusal 7)
 pileAnswer held (pile (x ∷ [])) = runTo (held .finals) x
-pileAnswer held (pile (x ∷ (y ∷ sets))) = noRun 7
+pileAnswer held (pile (x ∷ (y ∷ sets))) = noRun (refusal 7)
 
 unfoldable pub wordsAnswer : Held → List ℕ → ReachedStates
-wordsAnswer held words = cond (leb (length words) mostWords) (pileAnswer held (pileOf held words)) (noRun 7)
+wordsAnswer held words = cond (leb (length words) mostWords) (pileAnswer held (pileOf held words)) (noRun (refusal 7))

@@ -22,11 +22,11 @@ const SMALL: usize = 64;
 const LARGE: usize = 4096;
 
 // A refusal: the set is empty.
-pub fn refused(number: u8) -> ReachedStates
-    ensures { λ r. ⌜ r ≡ noRun number ⌝ }
+pub fn refused(refusal: Refusal) -> ReachedStates
+    ensures { λ r. ⌜ r ≡ noRun refusal ⌝ }
 {
     ReachedStates {
-        refusal: Refusal { number },
+        refusal,
         states: StateSet::EMPTY,
         yes: false,
     }
@@ -37,7 +37,7 @@ fn reached(finals: StateSet, set: u16) -> ReachedStates
     ensures { λ r. ⌜ r ≡ runTo (finals .0) set ⌝ }
 {
     ReachedStates {
-        refusal: Refusal { number: 0 },
+        refusal: Refusal::DONE,
         states: StateSet(set),
         yes: (set & finals.0) != 0,
     }
@@ -60,11 +60,11 @@ fn climb(a: Automaton, words: &[u16], pile: &mut [u16]) -> ReachedStates
         let f = words[i];
         let symbol = f as usize;
         if known <= symbol {
-            return refused(7);
+            return refused(Refusal::NO_TREE);
         }
         let arity = a.arities[symbol] as usize;
         if depth < arity {
-            return refused(7);
+            return refused(Refusal::NO_TREE);
         }
         let base = depth - arity;
         depth = base + 1;
@@ -90,7 +90,7 @@ fn climb(a: Automaton, words: &[u16], pile: &mut [u16]) -> ReachedStates
     if depth == 1 {
         reached(a.finals, pile[0])
     } else {
-        refused(7)
+        refused(Refusal::NO_TREE)
     }
 }
 
@@ -119,7 +119,7 @@ pub fn answer(a: Automaton, words: &[u16]) -> ReachedStates
     ensures { λ r. ⌜ r ≡ wordsAnswer (heldBy a) (now (words .entry)) ⌝ }
 {
     if LARGE < words.len() {
-        return refused(7);
+        return refused(Refusal::NO_TREE);
     }
     if words.len() <= SMALL {
         in_small(a, words)

@@ -1,4 +1,4 @@
-// Running a tree through an automaton, and its productive states: document 01, "Running a tree".
+// Running a tree through an automaton, and its productive states.
 use automaton::Refusal;
 use sets::StateSet;
 ghost use Rattle.trees.specs.Promises.{RunPromise, ProductivePromise};
@@ -28,9 +28,9 @@ pub fn run(file: &[u8], words: &[u16]) -> ReachedStates
     ensures { λ r. ⌜ RunPromise (now (file .entry)) (now (words .entry)) r ⌝ }
 {
     let reading = automaton::read(file);
-    let number = reading.refusal.number;
-    if number != 0 {
-        return climb::refused(number);
+    let refusal = reading.refusal;
+    if refusal.number != 0 {
+        return climb::refused(refusal);
     }
     let a = reading.automaton;
     climb::answer(a, words)
@@ -41,9 +41,9 @@ pub fn productive(file: &[u8]) -> ProductiveStates
     ensures { λ r. ⌜ ProductivePromise (now (file .entry)) r ⌝ }
 {
     let reading = automaton::read(file);
-    let number = reading.refusal.number;
-    if number != 0 {
-        return rounds::refused(number);
+    let refusal = reading.refusal;
+    if refusal.number != 0 {
+        return rounds::refused(refusal);
     }
     let a = reading.automaton;
     rounds::answer(a)

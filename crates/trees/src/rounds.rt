@@ -12,11 +12,11 @@ ghost use Rattle.trees.specs.Runs.{ProductiveSet};
 ghost use Rattle.trees.specs.Promises.{noStates, StatesOf};
 
 // A refusal: the set is empty.
-pub fn refused(number: u8) -> ProductiveStates
-    ensures { λ r. ⌜ r ≡ noStates number ⌝ }
+pub fn refused(refusal: Refusal) -> ProductiveStates
+    ensures { λ r. ⌜ r ≡ noStates refusal ⌝ }
 {
     ProductiveStates {
-        refusal: Refusal { number },
+        refusal,
         states: StateSet::EMPTY,
     }
 }
@@ -55,7 +55,7 @@ pub fn answer(a: Automaton) -> ProductiveStates
     ensures { λ r. ⌜ StatesOf (heldBy a) r ⌝ }
 {
     ProductiveStates {
-        refusal: Refusal { number: 0 },
+        refusal: Refusal::DONE,
         states: StateSet(rounds(a)),
     }
 }

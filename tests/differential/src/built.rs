@@ -1,5 +1,8 @@
-//! Expression tables made node by node with the proved library's `make`, and what a table denotes.
+//! Expression tables made node by node, or by a conversion, on both sides at once, and what a table denotes.
 
+use crate::both;
+use crate::lent::Buffer;
+use crate::typed::{holding, sevens};
 use independent::table::{self, Node, WORDS_A_NODE};
 use meaning::denoted;
 use meaning::language::{Language, Limit};
@@ -17,9 +20,11 @@ impl Built {
         for (place, &child) in children.iter().enumerate() {
             three[place] = child as u32;
         }
-        self.words.extend([0; WORDS_A_NODE]);
-        let number = library::make(&mut self.words, self.count, kind, label, three);
+        self.words.extend([7; WORDS_A_NODE]);
+        let mut words = holding(&self.words);
+        let number = both::make(&mut words, self.count, kind, label, three);
         assert_eq!(number, 0, "node {} of kind {kind}, label {label}, children {children:?}", self.count);
+        self.words.copy_from_slice(words.cells());
         self.count += 1;
         self.count - 1
     }
@@ -50,8 +55,8 @@ impl Built {
 
     /// What a node of the table denotes, to a size. The table must be sound.
     pub fn denotes(&self, answer: usize, size: usize) -> Language {
-        assert!(library::is_sound(&self.words, self.count, answer), "a table made node by node is sound");
-        let nodes = table::sound_nodes(&self.words, self.count, answer).expect("sound for the independent program too");
+        assert!(both::is_sound(&holding(&self.words), self.count, answer), "a table made node by node is sound");
+        let nodes = table::sound_nodes(&self.words, self.count, answer).expect("a sound table");
         denoted_to(&nodes, answer, size)
     }
 }
@@ -62,11 +67,11 @@ pub fn denoted_to(nodes: &[Node], answer: usize, size: usize) -> Language {
     denoted::denoted_by_nodes(nodes, limit).expect("no limit on trees").swap_remove(answer)
 }
 
-/// The library's conversion of a file in ample room: its nodes and its answer.
+/// The conversion of a file in ample room: its nodes and its answer.
 pub fn converted(file: &[u8]) -> (Vec<Node>, usize) {
-    let mut words = vec![0; WORDS_A_NODE * 1393];
-    let wholly = library::convert(file, &mut words);
+    let mut words = sevens(WORDS_A_NODE * 1393);
+    let wholly = both::convert(&holding(file), &mut words);
     assert_eq!(wholly.refusal, 0, "a valid file is converted");
-    let nodes = table::sound_nodes(&words, wholly.nodes, wholly.answer).expect("the converted table is sound");
+    let nodes = table::sound_nodes(words.cells(), wholly.nodes, wholly.answer).expect("the converted table is sound");
     (nodes, wholly.answer)
 }

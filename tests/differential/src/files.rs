@@ -1,4 +1,4 @@
-//! Random files: valid ones, and ones damaged in every way that 01's checks speak of.
+//! Random files: valid ones, and ones damaged in every way that the reader's checks speak of (3.8 to 3.16 of `docs/REQUIREMENTS.md`).
 
 use crate::automata;
 use crate::random::Random;

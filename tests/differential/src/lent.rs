@@ -1,8 +1,17 @@
 //! Buffers as they are lent: filled with a pattern, and with margins on both sides that nobody may touch.
 
 use crate::random::Random;
+use std::hint::black_box;
 
 const MARGIN: usize = 8;
+
+/// A block of cells to lend, which can be looked over afterwards. The fuzzer has another than the one here.
+pub trait Buffer<T>: Clone {
+    fn cells(&self) -> &[T];
+    fn cells_mut(&mut self) -> &mut [T];
+    /// Fails at the first place where it is not as expected; what lies around the cells counts too.
+    fn must_be(&self, expected: &Self, what: &str);
+}
 
 #[derive(Clone, PartialEq, Eq, Debug)]
 pub struct Lent<T> {
@@ -45,26 +54,29 @@ impl<T: Cell> Lent<T> {
         lent.cells_mut().copy_from_slice(cells);
         lent
     }
+}
 
-    pub fn cells(&self) -> &[T] {
+impl<T: Cell> Buffer<T> for Lent<T> {
+    fn cells(&self) -> &[T] {
         &self.all[MARGIN..self.all.len() - MARGIN]
     }
 
-    pub fn cells_mut(&mut self) -> &mut [T] {
+    fn cells_mut(&mut self) -> &mut [T] {
         let end = self.all.len() - MARGIN;
         &mut self.all[MARGIN..end]
     }
 
-    /// Fails at the first place, margins too, where a buffer is not as expected.
-    pub fn must_be(&self, expected: &Lent<T>, what: &str) {
-        if self != expected {
-            let place = self.all.iter().zip(&expected.all).position(|(a, b)| a != b);
+    fn must_be(&self, expected: &Lent<T>, what: &str) {
+        // The compiler is not to conclude that what was lent to be read is as it was.
+        let (found, expected) = (black_box(self), black_box(expected));
+        if found != expected {
+            let place = found.all.iter().zip(&expected.all).position(|(a, b)| a != b);
             let place = place.expect("buffers of one length");
             panic!(
                 "{what}: place {} (of {}) is {:?}, expected {:?}",
                 place as isize - MARGIN as isize,
-                self.cells().len(),
-                self.all[place],
+                found.cells().len(),
+                found.all[place],
                 expected.all[place]
             );
         }

@@ -1,4 +1,5 @@
-//! Automata that stand in print: those of the sources, and the worked drafts of document 01. `samples/` holds their files.
+//! Automata that stand in print: those of the published works that `docs/REQUIREMENTS.md` names, and its worked drafts (section 10).
+//! `samples/` holds their files.
 
 use independent::automaton::{Automaton, Row};
 use independent::file;
@@ -50,13 +51,13 @@ fn published(
     }
 }
 
-/// Source document 002, example 2: lists of integers. State 0 is I, state 1 is L.
+/// The elimination paper, example 2: lists of integers. State 0 is I, state 1 is L.
 pub fn integer_lists() -> Published {
     let symbols = [("int", 0), ("nil", 0), ("cons", 2)];
     published("integer_lists", 2, &[1], &symbols, &[("int", &[], 0), ("nil", &[], 1), ("cons", &[0, 1], 1)])
 }
 
-/// Source document 000, table 5.1, with final states 3, 4 and 5; its state i is state i − 1 here.
+/// The axioms thesis, table 5.1, with final states 3, 4 and 5; its state i is state i − 1 here.
 pub fn table_5_1() -> Published {
     let symbols = [("a", 2), ("b", 1), ("c", 0)];
     let rows: [NamedRow; 15] = [
@@ -79,7 +80,7 @@ pub fn table_5_1() -> Published {
     published("table_5_1", 5, &[2, 3, 4], &symbols, &rows)
 }
 
-/// Source document 003, example 6: its equations as rows, final states 1 and 3; its state i is state i − 1 here.
+/// The Arden paper, example 6: its equations as rows, final states 1 and 3; its state i is state i − 1 here.
 pub fn example_6() -> Published {
     let symbols = [("f", 2), ("b", 0), ("a", 0), ("h", 1)];
     let rows: [NamedRow; 8] = [
@@ -95,39 +96,39 @@ pub fn example_6() -> Published {
     published("example_6", 4, &[0, 2], &symbols, &rows)
 }
 
-/// Document 01's file P.
+/// File P [10.2].
 pub fn file_p() -> Published {
     let rows: [NamedRow; 3] = [("a", &[], 0), ("g", &[0, 0], 1), ("g", &[1, 0], 1)];
     published("file_p", 2, &[1], &[("a", 0), ("g", 2)], &rows)
 }
 
-/// Worked draft: "a to 0, b to 0, g(0,0) to 1, final 1".
+/// Worked draft with four trees: a and b are in state 0, and g over two of them in state 1 [10.9].
 pub fn four_pairs() -> Published {
     let rows: [NamedRow; 3] = [("a", &[], 0), ("b", &[], 0), ("g", &[0, 0], 1)];
     published("four_pairs", 2, &[1], &[("a", 0), ("b", 0), ("g", 2)], &rows)
 }
 
-/// Worked draft: "a to 0, g(0,0) to 0, final 0".
+/// Worked draft of one state: a, and g over any two trees [10.10].
 pub fn binary_trees() -> Published {
     published("binary_trees", 1, &[0], &[("a", 0), ("g", 2)], &[("a", &[], 0), ("g", &[0, 0], 0)])
 }
 
-/// Worked draft: "h(0) to 0, final 0".
+/// Worked draft that accepts nothing: h over itself, and no leaf to begin with [10.11].
 pub fn nothing_begins() -> Published {
     published("nothing_begins", 1, &[0], &[("h", 1)], &[("h", &[0], 0)])
 }
 
-/// Worked draft: "One state, final, no rows".
+/// Worked draft without rows [10.12].
 pub fn no_rows() -> Published {
     published("no_rows", 1, &[0], &[("a", 0)], &[])
 }
 
-/// Worked draft: "a to 0, no final".
+/// Worked draft without a final state [10.13].
 pub fn no_final() -> Published {
     published("no_final", 1, &[], &[("a", 0)], &[("a", &[], 0)])
 }
 
-/// Worked draft: "States 0 to 2, a to 0, h(1) to 0, g(0) to 2, final 2".
+/// Worked draft that accepts g(a) alone: h waits for a state that nothing reaches [10.14].
 pub fn one_tree() -> Published {
     let rows: [NamedRow; 3] = [("a", &[], 0), ("h", &[1], 0), ("g", &[0], 2)];
     published("one_tree", 3, &[2], &[("a", 0), ("h", 1), ("g", 1)], &rows)

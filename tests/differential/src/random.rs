@@ -60,6 +60,32 @@ impl Random {
         }
     }
 
+    /// A number of 64 bits: with any number of digits, near a power of ten, near a power of two, at either end, anything.
+    pub fn long(&mut self) -> u64 {
+        match self.below(6) {
+            0 => self.next() >> self.below(64),
+            1 => 10u64.pow(self.below(20) as u32) - self.below(2) as u64,
+            2 => (1u64 << self.below(64)).wrapping_sub(self.below(2) as u64),
+            3 => u64::MAX - self.below(3) as u64,
+            4 => self.below(20_000) as u64,
+            _ => self.next(),
+        }
+    }
+
+    /// A place for so many cells in a buffer of that length: where they just fit, where one is too many, anywhere around, or so far on
+    /// that place and cells, added, pass 32 or 64 bits.
+    pub fn place(&mut self, length: usize, cells: usize) -> usize {
+        let near = self.below(length + 12);
+        match self.below(8) {
+            0 | 1 => length.saturating_sub(cells),
+            2 => (length + 1).saturating_sub(cells),
+            3 | 4 => near,
+            5 => usize::MAX - self.below(cells + 12),
+            6 => self.pick(&[1 << 31, 1 << 32, 1 << 63]) + near,
+            _ => self.next() as usize,
+        }
+    }
+
     /// A count or an answer that no table has: over 4,096, and values where six times it passes 32 or 64 bits.
     pub fn huge(&mut self) -> usize {
         let corners = [

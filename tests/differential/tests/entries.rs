@@ -1,9 +1,10 @@
-//! Each entry of the proved library beside the independent program: every number and every word of every lent buffer.
+//! Each entry of the proved library beside the independent program on random cases: every number and every cell of every lent buffer.
 
 use differential::cases::{self, refusal, Outcome, DEFAULT_CASES};
-use differential::lent::Lent;
+use differential::crossing::{self, Plain};
+use differential::lent::{Buffer, Lent};
 use differential::random::Random;
-use differential::{automata, files, tables, words};
+use differential::{automata, both, files, tables, words};
 use independent::automaton::{Automaton, Value, ValueRow};
 use independent::table::WORDS_A_NODE;
 use independent::{elimination, file, listing, printed, table, trees};
@@ -19,15 +20,11 @@ fn file_outcomes(more: &[Outcome]) -> Vec<Outcome> {
 fn read() {
     cases::run("read", DEFAULT_CASES, &FILE_OUTCOMES, |random| {
         let bytes = files::file(random, 4);
-        let lent = Lent::holding(random, &bytes);
-        let before = lent.clone();
-        let expected = file::reading(&bytes);
-        let found = library::read(lent.cells());
-        assert_eq!(found, expected, "read of {bytes:?}");
-        lent.must_be(&before, "the file after read");
+        let found = both::read(&Lent::holding(random, &bytes));
         if found.0 == 0 {
             let mut again = vec![0; bytes.len()];
-            assert_eq!(library::write(&found.1, &mut again), (0, bytes.len()), "what was read, written");
+            let written = library::write(crossing::automaton(&found.1), &mut again).plain();
+            assert_eq!(written, (0, bytes.len()), "what was read, written");
             assert_eq!(again, bytes, "what was read, written");
         }
         refusal(found.0)
@@ -90,13 +87,9 @@ fn write() {
         let length = Automaton::from_value(&value).map_or(60, |automaton| file::file_of(&automaton).len());
         let length = random.near(length);
         let mut lent = Lent::<u8>::patterned(random, length);
-        let mut expected_bytes = lent.clone();
-        let expected = file::write(&value, expected_bytes.cells_mut());
-        let found = library::write(&value, lent.cells_mut());
-        assert_eq!(found, expected, "write of {value:?} to {length} bytes");
-        lent.must_be(&expected_bytes, "the bytes after write");
+        let found = both::write(&value, &mut lent);
         if found.0 == 0 {
-            let (number, again) = library::read(&lent.cells()[..found.1]);
+            let (number, again) = library::read(&lent.cells()[..found.1]).plain();
             let said = Automaton::from_value(&value).map(|automaton| automaton.to_value());
             assert_eq!((number, Some(again)), (0, said), "what was written, read");
         }
@@ -111,14 +104,7 @@ fn run() {
         let automaton = automata::automaton(random);
         let bytes = if random.once_in(5) { files::file(random, 0) } else { file::file_of(&automaton) };
         let words = words::words(random, &automaton);
-        let lent_file = Lent::holding(random, &bytes);
-        let lent_words = Lent::holding(random, &words);
-        let before = (lent_file.clone(), lent_words.clone());
-        let expected = trees::run(&bytes, &words);
-        let found = library::run(lent_file.cells(), lent_words.cells());
-        assert_eq!(found, expected, "run of {words:?} in {bytes:?}");
-        lent_file.must_be(&before.0, "the file after run");
-        lent_words.must_be(&before.1, "the words after run");
+        let found = both::run(&Lent::holding(random, &bytes), &Lent::holding(random, &words));
         match found.refusal {
             0 if words.len() == 4096 => "done, of 4096 symbols",
             0 if found.yes => "done, yes",
@@ -135,13 +121,7 @@ fn productive() {
     let outcomes = file_outcomes(&["done, all states", "done, no state"]);
     cases::run("productive", DEFAULT_CASES, &outcomes, |random| {
         let bytes = files::file(random, 7);
-        let lent = Lent::holding(random, &bytes);
-        let before = lent.clone();
-        let expected = trees::productive(&bytes);
-        let found = library::productive(lent.cells());
-        assert_eq!(found, expected, "productive states of {bytes:?}");
-        lent.must_be(&before, "the file after productive");
-        match found {
+        match both::productive(&Lent::holding(random, &bytes)) {
             (0, 0) => "done, no state",
             (0, states) if states.count_ones() as u8 == bytes[4] => "done, all states",
             (number, _) => refusal(number),
@@ -153,13 +133,7 @@ fn productive() {
 fn is_sound() {
     cases::run("is_sound", DEFAULT_CASES, &["yes", "no", "yes, of 4096 nodes", "no, of 4097 nodes"], |random| {
         let table = tables::table(random, 4);
-        let lent = Lent::holding(random, &table.words);
-        let before = lent.clone();
-        let expected = table::is_sound(&table.words, table.count, table.answer);
-        let found = library::is_sound(lent.cells(), table.count, table.answer);
-        assert_eq!(found, expected, "is_sound of {:?}, count {}, answer {}", table.words, table.count, table.answer);
-        lent.must_be(&before, "the words after is_sound");
-        match found {
+        match both::is_sound(&Lent::holding(random, &table.words), table.count, table.answer) {
             true if table.count == 4096 => "yes, of 4096 nodes",
             true => "yes",
             false if table.count == 4097 && table.words.len() >= WORDS_A_NODE * 4097 => "no, of 4097 nodes",
@@ -180,16 +154,10 @@ fn make() {
         };
         let mut more = Random::new(random.next());
         words.resize_with(length, || more.number());
-        let mut lent = Lent::holding(random, &words);
-        let mut expected_words = lent.clone();
-        let expected = table::make(expected_words.cells_mut(), count, kind, label, children);
-        let found = library::make(lent.cells_mut(), count, kind, label, children);
-        assert_eq!(found, expected, "make of {:?} as node {count} after {words:?}", (kind, label, children));
-        lent.must_be(&expected_words, "the words after make");
-        if found == 0 && count == 4095 {
-            return "done, node 4095";
+        match both::make(&mut Lent::holding(random, &words), count, kind, label, children) {
+            0 if count == 4095 => "done, node 4095",
+            number => refusal(number),
         }
-        refusal(found)
     });
 }
 
@@ -222,17 +190,9 @@ fn table_for_make(random: &mut Random) -> (usize, Vec<u32>) {
 fn measure() {
     cases::run("measure", DEFAULT_CASES, &["done", "refused 6", "refused 8", "done, held"], |random| {
         let table = tables::table(random, 8);
-        let lent = Lent::holding(random, &table.words);
-        let before = lent.clone();
         let length = random.near(table.count.min(5000));
         let mut scratch = Lent::<u32>::patterned(random, length);
-        let mut expected_scratch = scratch.clone();
-        let expected = table::measure(&table.words, table.count, table.answer, expected_scratch.cells_mut());
-        let found = library::measure(lent.cells(), table.count, table.answer, scratch.cells_mut());
-        assert_eq!(found, expected, "measure of {:?}, count {}, answer {}", table.words, table.count, table.answer);
-        scratch.must_be(&expected_scratch, "the scratch after measure");
-        lent.must_be(&before, "the words after measure");
-        match found {
+        match both::measure(&Lent::holding(random, &table.words), table.count, table.answer, &mut scratch) {
             (0, u32::MAX) => "done, held",
             (number, _) => refusal(number),
         }
@@ -243,20 +203,12 @@ fn measure() {
 fn list() {
     cases::run("list", DEFAULT_CASES, &["done", "refused 6", "refused 8", "done, of 4096 nodes"], |random| {
         let table = tables::table(random, 8);
-        let lent = Lent::holding(random, &table.words);
-        let before = lent.clone();
         let nodes = table::sound_nodes(&table.words, table.count, table.answer);
         let length = random.near(nodes.map_or(40, |nodes| listing::listing(&nodes, table.answer).len()));
         let mut out = Lent::<u8>::patterned(random, length);
-        let mut expected_out = out.clone();
-        let expected = listing::list(&table.words, table.count, table.answer, expected_out.cells_mut());
-        let found = library::list(lent.cells(), table.count, table.answer, out.cells_mut());
-        assert_eq!(found, expected, "list of {:?}, count {}, answer {}", table.words, table.count, table.answer);
-        out.must_be(&expected_out, "the bytes after list");
-        lent.must_be(&before, "the words after list");
-        match found.0 {
-            0 if table.count == 4096 => "done, of 4096 nodes",
-            number => refusal(number),
+        match both::list(&Lent::holding(random, &table.words), table.count, table.answer, &mut out) {
+            (0, _) if table.count == 4096 => "done, of 4096 nodes",
+            (number, _) => refusal(number),
         }
     });
 }
@@ -284,15 +236,8 @@ fn convert_partly() {
             assert!(stage.nodes.len() <= elimination::bound(automaton), "more nodes than the bound");
             stage.nodes.len()
         });
-        let lent_file = Lent::holding(random, &bytes);
-        let before = lent_file.clone();
         let mut nodes = room(random, made);
-        let mut expected_nodes = nodes.clone();
-        let expected = elimination::convert_partly(&bytes, k, expected_nodes.cells_mut());
-        let found = library::convert_partly(lent_file.cells(), k, nodes.cells_mut());
-        assert_eq!(found, expected, "convert_partly of {bytes:?}, {k} states, {} words", nodes.cells().len());
-        nodes.must_be(&expected_nodes, "the words after convert_partly");
-        lent_file.must_be(&before, "the file after convert_partly");
+        let found = both::convert_partly(&Lent::holding(random, &bytes), k, &mut nodes);
         match found.refusal {
             0 if k as usize == states => "done, all states",
             number => refusal(number),
@@ -310,15 +255,8 @@ fn convert() {
             assert!(nodes <= elimination::bound(&automaton), "more nodes than the bound");
             nodes
         });
-        let lent_file = Lent::holding(random, &bytes);
-        let before = lent_file.clone();
         let mut nodes = room(random, made);
-        let mut expected_nodes = nodes.clone();
-        let expected = elimination::convert(&bytes, expected_nodes.cells_mut());
-        let found = library::convert(lent_file.cells(), nodes.cells_mut());
-        assert_eq!(found, expected, "convert of {bytes:?} in {} words", nodes.cells().len());
-        nodes.must_be(&expected_nodes, "the words after convert");
-        lent_file.must_be(&before, "the file after convert");
+        let found = both::convert(&Lent::holding(random, &bytes), &mut nodes);
         if found.refusal == 0 {
             assert!(library::is_sound(nodes.cells(), found.nodes, found.answer), "the converted table is sound");
         }
@@ -335,21 +273,12 @@ fn printed_text() {
         let bytes = files::file(random, 8);
         let text = printed::text(&bytes);
         let made = file::read(&bytes).map_or(5, |automaton| elimination::converted(&automaton).0.len());
-        let lent_file = Lent::holding(random, &bytes);
-        let before = lent_file.clone();
         let mut nodes = room(random, made);
         let length = random.near(text.len());
         let mut out = Lent::<u8>::patterned(random, length);
-        let (mut expected_nodes, mut expected_out) = (nodes.clone(), out.clone());
-        let expected = printed::printed(&bytes, expected_nodes.cells_mut(), expected_out.cells_mut());
-        let found = library::printed(lent_file.cells(), nodes.cells_mut(), out.cells_mut());
-        assert_eq!(found, expected, "printed of {bytes:?} in {} words and {length} bytes", nodes.cells().len());
-        nodes.must_be(&expected_nodes, "the words after printed");
-        out.must_be(&expected_out, "the bytes after printed");
-        lent_file.must_be(&before, "the file after printed");
-        match found.0 {
-            0 if text.starts_with("refused") => "done, a refusal",
-            number => refusal(number),
+        match both::printed(&Lent::holding(random, &bytes), &mut nodes, &mut out) {
+            (0, _) if text.starts_with("refused") => "done, a refusal",
+            (number, _) => refusal(number),
         }
     });
 }

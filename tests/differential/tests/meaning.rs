@@ -4,7 +4,7 @@
 use differential::automata;
 use differential::cases;
 use independent::automaton::Automaton;
-use independent::elimination::{self, ListRow, Partly};
+use independent::elimination::{self, ListRow};
 use independent::file;
 use independent::table::{self, Node, WORDS_A_NODE};
 use meaning::accepted;
@@ -25,7 +25,7 @@ const SIZES: [usize; 5] = [8, 7, 6, 5, 4];
 fn converted(bytes: &[u8], automaton: &Automaton) -> (Vec<u32>, Vec<Node>, usize) {
     let mut words = vec![0; WORDS_A_NODE * elimination::bound(automaton)];
     let wholly = library::convert(bytes, &mut words);
-    assert_eq!(wholly.refusal, 0, "a conversion with the bound's room is not refused");
+    assert_eq!(wholly.refusal.number, 0, "a conversion with the bound's room is not refused");
     let nodes = table::sound_nodes(&words, wholly.nodes, wholly.answer).expect("the converted table is sound");
     words.truncate(WORDS_A_NODE * wholly.nodes);
     (words, nodes, wholly.answer)
@@ -34,11 +34,11 @@ fn converted(bytes: &[u8], automaton: &Automaton) -> (Vec<u32>, Vec<Node>, usize
 /// The library's list after k states; its nodes begin the whole conversion's.
 fn list_after(bytes: &[u8], k: usize, whole: &[u32]) -> Vec<ListRow> {
     let mut words = vec![0; whole.len()];
-    let partly: Partly = library::convert_partly(bytes, k as u32, &mut words);
-    assert_eq!(partly.refusal, 0, "a partial conversion in the whole one's room is not refused");
+    let partly = library::convert_partly(bytes, k as u32, &mut words);
+    assert_eq!(partly.refusal.number, 0, "a partial conversion in the whole one's room is not refused");
     let made = WORDS_A_NODE * partly.nodes;
     assert_eq!(words[..made], whole[..made], "the nodes after {k} states begin the whole table");
-    partly.list[..partly.rows].iter().map(|place| ListRow { node: place.node as usize, target: place.target as usize }).collect()
+    partly.list[..partly.rows].iter().map(|row| ListRow { node: row.node as usize, target: row.target as usize }).collect()
 }
 
 /// Holds table and lists against the automaton, to one size; gives the number of accepted trees.

@@ -24,7 +24,7 @@ fn hold_against(published: &Published, stated: &Language, limit: Limit) {
     let mut run = 0;
     for tree in all_trees(&published.automaton.arities, limit.size).iter().flatten() {
         let reached = library::run(&bytes, &trees::words_of(tree));
-        assert_eq!(reached.refusal, 0);
+        assert_eq!(reached.refusal.number, 0);
         run += 1;
         if reached.yes {
             accepted.insert(as_language_tree(tree));
@@ -37,8 +37,8 @@ fn hold_against(published: &Published, stated: &Language, limit: Limit) {
     for k in 0..=published.automaton.states {
         let mut words = vec![0; WORDS_A_NODE * elimination::bound(&published.automaton)];
         let partly = library::convert_partly(&bytes, k as u32, &mut words);
-        assert_eq!(partly.refusal, 0);
-        let row = |place: &elimination::Place| ListRow { node: place.node as usize, target: place.target as usize };
+        assert_eq!(partly.refusal.number, 0);
+        let row = |row: &library::ListRow| ListRow { node: row.node as usize, target: row.target as usize };
         let rows: Vec<ListRow> = partly.list[..partly.rows].iter().map(row).collect();
         let found = listed::accepted_by_list(&nodes, &denoted, &rows, limit).expect("no limit on trees");
         assert_eq!(&found, stated, "{}: trees that the list after {k} states accepts", published.name);
@@ -49,7 +49,7 @@ fn hold_against(published: &Published, stated: &Language, limit: Limit) {
 
 fn run(published: &Published, tree: &str) -> bool {
     let reached = library::run(&published.file(), &published.words(tree));
-    assert_eq!(reached.refusal, 0, "{tree} is a tree");
+    assert_eq!(reached.refusal.number, 0, "{tree} is a tree");
     reached.yes
 }
 
@@ -57,7 +57,7 @@ fn over(symbol: usize, below: &[&Language], limit: Limit) -> Language {
     symbol_over(symbol as u8, below, limit).expect("no limit on trees")
 }
 
-/// 002: "accepts the language { nil, cons(int, nil), cons(int, cons(int, nil)), … }".
+/// The elimination paper states the language: nil, cons(int, nil), cons(int, cons(int, nil)), and so on.
 #[test]
 fn integer_lists() {
     let published = published::integer_lists();
@@ -78,7 +78,7 @@ fn integer_lists() {
     }
 }
 
-/// The least languages that keep 000's equations of example 5.1, to a size; the answer is X3, X4 and X5.
+/// The least languages that keep the equations of example 5.1 of the axioms thesis, to a size; the answer is X3, X4 and X5.
 fn solution_of_5_1(published: &Published, limit: Limit) -> Language {
     let (a, b, c) = (published.number("a"), published.number("b"), published.number("c"));
     let union = |parts: &[Language]| -> Language { parts.iter().flatten().cloned().collect() };
@@ -113,7 +113,8 @@ fn table_5_1() {
     }
 }
 
-/// 000's expression (5.4), which denotes trees of X4 only: (a(b(a(c,c) + a(c,x)), c) + a(b(a(c,c) + a(c,x)), x))*x ·x a(b(a(c,c)), c).
+/// Expression (5.4) of the axioms thesis, which denotes trees of X4 only:
+/// (a(b(a(c,c) + a(c,x)), c) + a(b(a(c,c) + a(c,x)), x))*x ·x a(b(a(c,c)), c).
 #[test]
 fn expression_5_4() {
     let published = published::table_5_1();
@@ -134,7 +135,7 @@ fn expression_5_4() {
     for tree in &denoted {
         let words: Vec<u16> = tree.0.iter().map(|label| symbol_of(*label)).collect();
         let reached = library::run(&published.file(), &words);
-        assert!(reached.yes && reached.states & 0b1000 != 0, "{tree:?} reaches state 4 of the text");
+        assert!(reached.yes && reached.states.0 & 0b1000 != 0, "{tree:?} reaches state 4 of the text");
     }
     println!("expression 5.4: {} trees to size 25, each reaches state 4 of the text", denoted.len());
 }
@@ -146,7 +147,8 @@ fn symbol_of(label: meaning::language::Label) -> u16 {
     }
 }
 
-/// 003, example 6: "(f(x1,x1))*x1 ·x1 (f(((f(x2, a + h(S))))*x2 ·x2 b, a + h(S))) + S", S being "(h(a + h(x3)))*x3 ·x3 a".
+/// The Arden paper's expression for its example 6: (f(x1,x1))*x1 ·x1 (f(((f(x2, a + h(S))))*x2 ·x2 b, a + h(S))) + S, where S is
+/// (h(a + h(x3)))*x3 ·x3 a.
 #[test]
 fn example_6() {
     let published = published::example_6();

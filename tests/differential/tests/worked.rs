@@ -1,14 +1,16 @@
-//! The worked drafts of document 01 and its "Slips that look reasonable", on the proved library, with the numbers typed from the
-//! document.
+//! The worked drafts and the slips of `docs/REQUIREMENTS.md`, sections 10 and 11, and a conversion worked out by hand from its section 8.
+//! Numbers in brackets are items of that page. The outcomes are typed: from the page, or from that working out.
 
+use differential::both;
 use differential::built::{converted, denoted_to, Built};
+use differential::lent::{Buffer, Lent};
 use differential::published::{self, Published};
-use independent::elimination::Place;
-use independent::table::WORDS_A_NODE;
-use independent::{elimination, file};
+use differential::typed::{all_are, begins_with, file, holding, sevens};
+use independent::automaton::Value;
+use independent::elimination::{self, Place};
 use meaning::language::{Label, Language, Tree};
 
-/// File P, from 01's hex.
+/// File P, from its hex [10.2].
 const P: [u8; 43] = [
     0x03, 0x00, 0x01, 0x00, 0x02, 0x02, 0x00, //
     0x01, 0x00, 0x02, 0x00, 0x00, //
@@ -19,8 +21,79 @@ const P: [u8; 43] = [
     0x00, 0x00, 0x09, 0x00,
 ];
 
-/// P's listing, from 01.
-const LISTING: &str = "\
+fn p() -> Lent<u8> {
+    holding(&P)
+}
+
+#[test]
+fn p_is_the_file_that_the_writer_makes() {
+    assert_eq!(published::file_p().file(), P);
+    let (number, value) = both::read(&p());
+    assert_eq!(number, 0);
+    assert_eq!(value, published::file_p().automaton.to_value());
+    let mut out = sevens(50);
+    assert_eq!(both::write(&value, &mut out), (0, 43));
+    assert!(begins_with(&out, &P), "P's bytes, and the seven after them as lent");
+}
+
+/// A whole conversion, typed out. The size of the answer is the last of the sizes, the answer being the last node.
+struct Conversion {
+    file: Lent<u8>,
+    table: Vec<[u32; 6]>,
+    sizes: Vec<u32>,
+    listing: &'static str,
+    /// The rows that are left when every state is dealt with: node and target; none of them waits.
+    left: Vec<(u16, u8)>,
+}
+
+impl Conversion {
+    /// Both sides make this table, in just enough words and in more, and one word fewer is too few; they measure and list it as typed.
+    fn holds(&self, states: u32) {
+        let (nodes, answer) = (self.table.len(), self.table.len() - 1);
+        let words = self.table.concat();
+        for more in [0, 1, 5, 6, 600] {
+            let mut lent = sevens(words.len() + more);
+            let wholly = both::convert(&self.file, &mut lent);
+            assert_eq!((wholly.refusal, wholly.nodes, wholly.answer), (0, nodes, answer), "with {more} words more");
+            assert!(begins_with(&lent, &words), "the table {:?} with {more} words more", lent.cells());
+        }
+        let mut lent = sevens(words.len() - 1);
+        let wholly = both::convert(&self.file, &mut lent);
+        assert_eq!((wholly.refusal, wholly.nodes, wholly.answer), (6, 0, 0), "one word fewer");
+        assert!(all_are(&lent, 0), "one word fewer: every word is 0");
+        let table = holding(&words);
+        let mut scratch = sevens(nodes + 3);
+        assert_eq!(both::measure(&table, nodes, answer, &mut scratch), (0, self.sizes[answer]));
+        assert!(begins_with(&scratch, &self.sizes), "the sizes {:?}", scratch.cells());
+        let mut text = sevens(self.listing.len() + 3);
+        assert_eq!(both::list(&table, nodes, answer, &mut text), (0, self.listing.len()));
+        assert!(begins_with(&text, self.listing.as_bytes()), "the listing {:?}", String::from_utf8_lossy(text.cells()));
+        let partly = both::convert_partly(&self.file, states, &mut sevens(words.len()));
+        let rows: Vec<(u16, u8)> = partly.list[..partly.rows].iter().map(|place| (place.node, place.target)).collect();
+        assert_eq!((partly.refusal, rows), (0, self.left.clone()), "the rows that are left");
+        assert!(partly.list.iter().all(|place| place.waits == 0), "no row waits any more");
+    }
+}
+
+/// P as it is to be listed: two states, the second of which loops [10.3, 10.4]. Seventeen nodes is what the bound allows.
+#[test]
+fn p_converted() {
+    Conversion {
+        file: p(),
+        table: vec![
+            [0, 0, 0, 0, 0, 0],
+            [1, 0, 0, 0, 0, 0b01],
+            [1, 1, 0, 0, 0, 0b10],
+            [2, 0, 0, 0, 0, 0],
+            [2, 513, 1, 1, 0, 0b01],
+            [2, 513, 2, 1, 0, 0b11],
+            [4, 0, 4, 3, 0, 0],
+            [4, 0, 5, 3, 0, 0b10],
+            [5, 1, 7, 0, 0, 0b10],
+            [4, 1, 8, 6, 0, 0],
+        ],
+        sizes: vec![1, 1, 1, 1, 3, 3, 5, 5, 6, 12],
+        listing: "\
 0 empty
 1 hole 0
 2 hole 1
@@ -32,66 +105,152 @@ const LISTING: &str = "\
 8 iter 1 7
 9 cat 1 8 6
 answer 9
-";
-
-#[test]
-fn p_is_the_file_that_the_writer_makes() {
-    assert_eq!(published::file_p().file(), P);
-    let (number, value) = library::read(&P);
-    assert_eq!(number, 0);
-    assert_eq!(value, published::file_p().automaton.to_value());
-    let mut out = [0; 43];
-    assert_eq!(library::write(&value, &mut out), (0, 43));
-    assert_eq!(out, P);
-}
-
-/// "P: 10 nodes, answer 9, written-out size 12. Bound 17."
-#[test]
-fn p_converted() {
-    let mut words = [7; 17 * WORDS_A_NODE];
-    let wholly = library::convert(&P, &mut words);
-    assert_eq!((wholly.refusal, wholly.nodes, wholly.answer), (0, 10, 9));
-    assert!(words[60..].iter().all(|&word| word == 7), "words past the table stay");
-    let mut sizes = [0; 10];
-    assert_eq!(library::measure(&words, 10, 9, &mut sizes), (0, 12));
-    let mut text = [0; 200];
-    let (number, length) = library::list(&words, 10, 9, &mut text);
-    assert_eq!((number, std::str::from_utf8(&text[..length])), (0, Ok(LISTING)));
+",
+        left: vec![(9, 16)],
+    }
+    .holds(2);
     assert_eq!(elimination::bound(&published::file_p().automaton), 17);
 }
 
-/// "Full conversion in 59 words: refused 6, all 59 zero; in 60 words: done."
+/// Leaves a and b, and g and h over state 0: two rows loop and two come in [10.15]. The nodes show the order in which a state's four are
+/// made: the looping rows joined, their iteration, the incoming rows joined, the concatenation.
 #[test]
-fn p_in_59_and_60_words() {
-    let mut words = [7; 59];
-    let wholly = library::convert(&P, &mut words);
-    assert_eq!((wholly.refusal, wholly.nodes, wholly.answer), (6, 0, 0));
-    assert_eq!(words, [0; 59]);
-    let mut words = [7; 60];
-    let wholly = library::convert(&P, &mut words);
-    assert_eq!((wholly.refusal, wholly.nodes, wholly.answer), (0, 10, 9));
+fn two_rows_loop_and_two_come_in() {
+    Conversion {
+        file: file(1, 1, &[0, 0, 1, 1], &[(0, &[], 0), (1, &[], 0), (2, &[0], 0), (3, &[0], 0)]),
+        table: vec![
+            [0, 0, 0, 0, 0, 0],
+            [1, 0, 0, 0, 0, 1],
+            [2, 0, 0, 0, 0, 0],
+            [2, 1, 0, 0, 0, 0],
+            [2, 258, 1, 0, 0, 1],
+            [2, 259, 1, 0, 0, 1],
+            [3, 0, 4, 5, 0, 1],
+            [5, 0, 6, 0, 0, 1],
+            [3, 0, 2, 3, 0, 0],
+            [4, 0, 7, 8, 0, 0],
+        ],
+        sizes: vec![1, 1, 1, 1, 2, 2, 5, 6, 3, 10],
+        listing: "\
+0 empty
+1 hole 0
+2 symbol 0
+3 symbol 1
+4 symbol 2 1
+5 symbol 3 1
+6 alt 4 5
+7 iter 0 6
+8 alt 2 3
+9 cat 0 7 8
+answer 9
+",
+        left: vec![(9, 16)],
+    }
+    .holds(1);
 }
 
-/// "After 1 step: 8 nodes, rows 6 to 1, 7 to 1, 2 to 16, waiting for 0, 1, 1 states. .. 3 steps: 9."
+/// Leaves a, b and c, and g, h and k over state 0 [10.16]. Of three rows a join takes the first two together and then the third: g with
+/// h, and that with k; a with b, and that with c.
+#[test]
+fn three_rows_loop_and_three_come_in() {
+    let rows: [(u8, &[u8], u8); 6] = [(0, &[], 0), (1, &[], 0), (2, &[], 0), (3, &[0], 0), (4, &[0], 0), (5, &[0], 0)];
+    Conversion {
+        file: file(1, 1, &[0, 0, 0, 1, 1, 1], &rows),
+        table: vec![
+            [0, 0, 0, 0, 0, 0],
+            [1, 0, 0, 0, 0, 1],
+            [2, 0, 0, 0, 0, 0],
+            [2, 1, 0, 0, 0, 0],
+            [2, 2, 0, 0, 0, 0],
+            [2, 259, 1, 0, 0, 1],
+            [2, 260, 1, 0, 0, 1],
+            [2, 261, 1, 0, 0, 1],
+            [3, 0, 5, 6, 0, 1],
+            [3, 0, 8, 7, 0, 1],
+            [5, 0, 9, 0, 0, 1],
+            [3, 0, 2, 3, 0, 0],
+            [3, 0, 11, 4, 0, 0],
+            [4, 0, 10, 12, 0, 0],
+        ],
+        sizes: vec![1, 1, 1, 1, 1, 2, 2, 2, 5, 8, 9, 3, 5, 15],
+        listing: "\
+0 empty
+1 hole 0
+2 symbol 0
+3 symbol 1
+4 symbol 2
+5 symbol 3 1
+6 symbol 4 1
+7 symbol 5 1
+8 alt 5 6
+9 alt 8 7
+10 iter 0 9
+11 alt 2 3
+12 alt 11 4
+13 cat 0 10 12
+answer 13
+",
+        left: vec![(13, 16)],
+    }
+    .holds(1);
+}
+
+/// Leaves a, b and c, each to a final state of its own: nothing loops, so each hole that is taken out becomes its leaf, and only the last
+/// join makes nodes, from the left again.
+#[test]
+fn three_rows_are_left_and_joined() {
+    Conversion {
+        file: file(3, 0b111, &[0, 0, 0], &[(0, &[], 0), (1, &[], 1), (2, &[], 2)]),
+        table: vec![
+            [0, 0, 0, 0, 0, 0],
+            [1, 0, 0, 0, 0, 0b001],
+            [1, 1, 0, 0, 0, 0b010],
+            [1, 2, 0, 0, 0, 0b100],
+            [2, 0, 0, 0, 0, 0],
+            [2, 1, 0, 0, 0, 0],
+            [2, 2, 0, 0, 0, 0],
+            [3, 0, 4, 5, 0, 0],
+            [3, 0, 7, 6, 0, 0],
+        ],
+        sizes: vec![1, 1, 1, 1, 1, 1, 1, 3, 5],
+        listing: "\
+0 empty
+1 hole 0
+2 hole 1
+3 hole 2
+4 symbol 0
+5 symbol 1
+6 symbol 2
+7 alt 4 5
+8 alt 7 6
+answer 8
+",
+        left: vec![(4, 16), (5, 16), (6, 16)],
+    }
+    .holds(3);
+}
+
+/// P with its first state dealt with [10.5], and asked for one step more than it has states [10.7].
 #[test]
 fn p_partly_converted() {
-    let mut words = [7; 100];
-    let partly = library::convert_partly(&P, 1, &mut words);
+    let mut words = sevens(100);
+    let partly = both::convert_partly(&p(), 1, &mut words);
     assert_eq!((partly.refusal, partly.nodes, partly.rows), (0, 8, 3));
     let place = |node, target, waits| Place { node, target, waits };
     assert_eq!(partly.list[..3], [place(6, 1, 0), place(7, 1, 1), place(2, 16, 1)]);
     assert!(partly.list[3..].iter().all(|&place| place == Place::default()), "unused places are 0");
-    let mut words = [7; 100];
-    let partly = library::convert_partly(&P, 3, &mut words);
+    let mut words = sevens(100);
+    let partly = both::convert_partly(&p(), 3, &mut words);
     assert_eq!((partly.refusal, partly.nodes, partly.rows), (9, 0, 0));
-    assert_eq!(words, [7; 100]);
+    assert!(partly.list.iter().all(|&place| place == Place::default()), "every place is 0");
+    assert!(all_are(&words, 7), "the words are as lent");
 }
 
-/// "Trees of P: 1 0 0 reaches {1}, yes; 1 1 0 0 0 yes; 1 0 1 0 0 reaches none, no; 0 reaches {0}, no; 1 0, 0 0 and no words: 7."
+/// Trees of P: two that are accepted, two that are not, and three that are no trees [10.8].
 #[test]
 fn trees_of_p() {
     let run = |words: &[u16]| {
-        let reached = library::run(&P, words);
+        let reached = both::run(&p(), &holding(words));
         (reached.refusal, reached.states, reached.yes)
     };
     assert_eq!(run(&[1, 0, 0]), (0, 0b10, true));
@@ -120,10 +279,11 @@ fn exactly(draft: &Published, trees: &[&str]) -> Language {
     trees.iter().map(|text| tree(draft, text)).collect()
 }
 
+/// The other drafts [10.9 to 10.14].
 #[test]
 fn other_drafts() {
     let draft = published::four_pairs();
-    assert_eq!(denotes(&draft, 8, 7), exactly(&draft, &["g(a,a)", "g(a,b)", "g(b,a)", "g(b,b)"]));
+    assert_eq!(denotes(&draft, 8, 7), exactly(&draft, &["g(a,b)", "g(b,a)", "g(a,a)", "g(b,b)"]));
     let draft = published::binary_trees();
     assert!(denotes(&draft, 6, 5).contains(&tree(&draft, "g(g(a,a),a)")));
     let draft = published::nothing_begins();
@@ -134,7 +294,7 @@ fn other_drafts() {
     assert_eq!(denotes(&draft, 10, 9), exactly(&draft, &["g(a)"]));
 }
 
-/// "Replacing all holes of one letter by one tree.": f(q,q) with a or b has four trees.
+/// First slip, one tree for every hole of a letter: f(q,q) closed with a or b has four trees, not two [11.1].
 #[test]
 fn holes_are_replaced_apart() {
     let mut table = Built::default();
@@ -146,7 +306,7 @@ fn holes_are_replaced_apart() {
     assert_eq!(table.denotes(answer, 9).len(), 4);
 }
 
-/// "Taking "E concatenated with empty" for empty": a tree of E that has no hole q stays.
+/// Second slip, a concatenation with empty that forgets its left: a tree of the left without the hole stays [11.2].
 #[test]
 fn concatenation_with_empty_keeps_trees_without_the_hole() {
     let mut table = Built::default();
@@ -157,7 +317,8 @@ fn concatenation_with_empty_keeps_trees_without_the_hole() {
     assert_eq!(table.denotes(answer, 9), Language::from([Tree(vec![Label::Symbol { symbol: 0, arity: 0 }])]));
 }
 
-/// "Levels of iteration without the earlier levels.": f(f(a,a),a) is in the iteration of f(q,q) closed with a.
+/// Third slip, levels that lose the level before: f over a pair and a leaf stands in the second level only because the leaf is still
+/// there [11.3].
 #[test]
 fn levels_keep_the_earlier_levels() {
     let mut table = Built::default();
@@ -171,7 +332,7 @@ fn levels_keep_the_earlier_levels() {
     assert_eq!(table.denotes(answer, 9).len(), 1 + 1 + 2 + 5 + 14);
 }
 
-/// "Letting a hole brought in by F be replaced again by the same concatenation.": h(q) concatenated over q with g(q) is h(g(q)) alone.
+/// Fourth slip, replacing in what was just put in: h(q) with g(q) put at q is h(g(q)) and stops there [11.4].
 #[test]
 fn what_is_brought_in_is_not_replaced_again() {
     let mut table = Built::default();
@@ -182,7 +343,7 @@ fn what_is_brought_in_is_not_replaced_again() {
     assert_eq!(table.denotes(answer, 9), Language::from([Tree(vec![unary(0), unary(1), Label::Hole(0)])]));
 }
 
-/// "Treating concatenations over different letters as associative (003 gives a counterexample)": (f(a,b) ·a b) ·b c is f(c,c), and
+/// Fifth slip, moving brackets across two letters, with a counterexample of the Arden paper [11.5]: (f(a,b) ·a b) ·b c is f(c,c), and
 /// f(a,b) ·a (b ·b c) is f(c,b). Here a and b are the holes 0 and 1.
 #[test]
 fn different_letters_are_not_associative() {
@@ -198,7 +359,7 @@ fn different_letters_are_not_associative() {
     assert_eq!(table.denotes(other_way, 9), Language::from([Tree(vec![f, leaf, Label::Hole(1)])]));
 }
 
-/// Every refusal of a file that 01's checks name, one by one, P being the file that is damaged. The comment says what was done.
+/// Every refusal of a file that the checks name [3.8 to 3.16], one by one, P being the file that is damaged. The comment says what was done.
 #[test]
 fn each_check_of_a_file() {
     let changed = |place: usize, byte: u8| {
@@ -232,7 +393,6 @@ fn each_check_of_a_file() {
         (longer(&[0, 0, 9, 0]), 5),
     ];
     for (bytes, number) in cases {
-        assert_eq!(library::read(&bytes).0, number, "{bytes:?}");
-        assert_eq!(file::reading(&bytes).0, number, "{bytes:?}");
+        assert_eq!(both::read(&holding(&bytes)), (number, Value::ZERO), "{bytes:?}");
     }
 }

@@ -1,8 +1,9 @@
-//! The automaton as a value, in two forms: the form with arrays that crosses the library's doors, and the form that says only what
-//! counts.
+//! The automaton as a value, in two forms: one with arrays of fixed length, as the reader and the writer have it, and one that says only
+//! what counts.
 
 use crate::sets::{self, States};
 
+// The limits [2.1, 2.3, 2.4].
 pub const MOST_STATES: usize = 16;
 pub const MOST_SYMBOLS: usize = 32;
 pub const MOST_ROWS: usize = 64;
@@ -26,8 +27,8 @@ pub struct Row {
     pub sources: Vec<usize>,
 }
 
-/// A value as it is lent to the writer and handed back by the reader: "Array places past a count or past an arity are ignored; the
-/// reader sets them to 0."
+/// A value as the writer takes it and the reader gives it [3.18]. Not every place of its arrays counts: the writer passes over those that
+/// no count and no arity reaches, and in what is read they are 0 [3.19].
 #[derive(Clone, Copy, PartialEq, Eq, Debug)]
 pub struct Value {
     pub states: u8,
@@ -82,7 +83,7 @@ impl Automaton {
         value
     }
 
-    /// What a value says, or nothing where no file can hold it. Only places that count are looked at.
+    /// What a value says, or nothing where no file can hold it. Only places that count are looked at [3.21].
     pub fn from_value(value: &Value) -> Option<Automaton> {
         let states = value.states as usize;
         let symbols = value.symbols as usize;

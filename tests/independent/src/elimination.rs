@@ -1,4 +1,4 @@
-//! 01, "Eliminating the states".
+//! Elimination: section 8.
 
 use crate::automaton::Automaton;
 use crate::file;
@@ -6,11 +6,12 @@ use crate::refusal::*;
 use crate::sets;
 use crate::table::{self, Node, Shape, WORDS_A_NODE};
 
-/// "State 16 is the added final state of a conversion and never stands in a file."
+/// The target of a conversion's own rows, past every state that a file can have [2.2].
 pub const FINAL: usize = 16;
+/// The places of the reported list [8.22].
 pub const LIST_PLACES: usize = 80;
 
-/// "Each list row is a node and a target."
+/// One row of the list that a conversion works on [8.3].
 #[derive(Clone, Copy, PartialEq, Eq, Debug)]
 pub struct ListRow {
     pub node: usize,
@@ -25,22 +26,24 @@ pub struct Stage {
 }
 
 impl Stage {
-    /// "Each new node is the next number."
+    /// Puts a node at the end; its number is what the count was [8.19].
     fn add(&mut self, shape: Shape) -> usize {
         let open = shape.open_set(|child| self.nodes[child].open);
         self.nodes.push(Node { shape, open });
         self.nodes.len() - 1
     }
 
+    /// By the node's kind [8.18].
     fn is_empty(&self, node: usize) -> bool {
         self.nodes[node].shape == Shape::Empty
     }
 
+    /// By the node's open set [8.7].
     fn is_open(&self, node: usize, state: usize) -> bool {
         sets::has(self.nodes[node].open, state as u32)
     }
 
-    /// "an alternation with an empty side is the other side (left tested first)"
+    /// An empty side falls away: first the left is looked at, then the right [8.15].
     fn alternation(&mut self, left: usize, right: usize) -> usize {
         if self.is_empty(left) {
             right
@@ -51,7 +54,7 @@ impl Stage {
         }
     }
 
-    /// "a concatenation over q whose left is hole q is its right"
+    /// Where the left is nothing but the hole itself, the right stands for the whole [8.16].
     fn concatenation(&mut self, state: usize, left: usize, right: usize) -> usize {
         let state = state as u32;
         if self.nodes[left].shape == (Shape::Hole { state }) {
@@ -61,7 +64,7 @@ impl Stage {
         }
     }
 
-    /// "an iteration of empty over q is hole q"
+    /// Over empty there is only level 0, so the state's own hole node stands for it [8.17].
     fn iteration(&mut self, state: usize, child: usize) -> usize {
         if self.is_empty(child) {
             1 + state
@@ -70,13 +73,13 @@ impl Stage {
         }
     }
 
-    /// "Joining starts with empty and adds each on the right."
+    /// From the left: empty, then one node after the other as the right side [8.14].
     fn join(&mut self, nodes: &[usize]) -> usize {
         nodes.iter().fold(0, |joined, &node| self.alternation(joined, node))
     }
 
-    /// "Node 0 is empty; nodes 1 to n are the holes; then one symbol node per row, in file order, with hole nodes as children. ..
-    /// After the file's rows comes, for each final state ascending, the hole's node with target 16."
+    /// The start: empty, a hole for each state, a symbol over holes for each row of the file; in the list those rows, and below them a row
+    /// to the added target for each final state, the lowest first [8.2, 8.4].
     pub fn start(automaton: &Automaton) -> Stage {
         let mut stage = Stage { nodes: Vec::new(), rows: Vec::new() };
         stage.add(Shape::Empty);
@@ -94,7 +97,8 @@ impl Stage {
         stage
     }
 
-    /// Takes out one state: A, I, B and X, then the outgoing rows at their own places; looping and incoming rows go.
+    /// Takes out one state: A, I, B and X are made, whatever rows there are. Then a row that waits for the state is filled with X where it
+    /// stands, rows that lead to the state drop out, and the others stay [8.6 to 8.13].
     pub fn eliminate(&mut self, state: usize) {
         let rows = std::mem::take(&mut self.rows);
         let to_state = |open: bool, stage: &Stage| -> Vec<usize> {
@@ -113,19 +117,19 @@ impl Stage {
         }
     }
 
-    /// "After all states the remaining rows are joined: that is the answer."
+    /// What is left when no state is left, as one node [8.20].
     pub fn join_rows(&mut self) -> usize {
         let nodes: Vec<usize> = self.rows.iter().map(|row| row.node).collect();
         self.join(&nodes)
     }
 
-    /// "the number of states in its node's open set"
+    /// For how many different states a row waits [8.23].
     pub fn waits(&self, row: ListRow) -> u32 {
         sets::count(self.nodes[row.node].open)
     }
 }
 
-/// The stage after the first k states, "taken in ascending order".
+/// The stage after the first k states, from state 0 up [8.5].
 pub fn stage_after(automaton: &Automaton, k: usize) -> Stage {
     let mut stage = Stage::start(automaton);
     for state in 0..k {
@@ -141,14 +145,14 @@ pub fn converted(automaton: &Automaton) -> (Vec<Node>, usize) {
     (stage.nodes, answer)
 }
 
-/// "1 + n + t + n × (t + f + 1) + f"
+/// More nodes than this no conversion of the automaton makes [8.29].
 pub fn bound(automaton: &Automaton) -> usize {
     let (n, t, f) = (automaton.states, automaton.rows.len(), sets::count(automaton.finals) as usize);
     1 + n + t + n * (t + f + 1) + f
 }
 
-/// "Room: refusal 6 exactly when the nodes so made outnumber the whole nodes that fit the lent words."; "a conversion's node table is
-/// all 0" then.
+/// Puts the nodes into the lent words where they fit [8.27, 8.28]. Where there are more nodes than whole sixes of words, all the words
+/// become 0, those past the last whole six too [4.22].
 pub fn put_nodes(nodes: &[Node], words: &mut [u32]) -> bool {
     if nodes.len() > words.len() / WORDS_A_NODE {
         words.fill(0);
@@ -167,7 +171,7 @@ pub struct Place {
     pub waits: u8,
 }
 
-/// What a partial conversion answers.
+/// What a partial conversion answers [8.21, 8.22].
 #[derive(Clone, Copy, PartialEq, Eq, Debug)]
 pub struct Partly {
     pub refusal: u8,
@@ -182,6 +186,7 @@ impl Partly {
     }
 }
 
+/// A file's own refusals, then 9 for too many states, then 6 for room [4.25].
 pub fn convert_partly(bytes: &[u8], k: u32, words: &mut [u32]) -> Partly {
     let automaton = match file::read(bytes) {
         Ok(automaton) => automaton,
@@ -201,7 +206,7 @@ pub fn convert_partly(bytes: &[u8], k: u32, words: &mut [u32]) -> Partly {
     answer
 }
 
-/// What a full conversion answers.
+/// What a full conversion answers [8.26].
 #[derive(Clone, Copy, PartialEq, Eq, Debug)]
 pub struct Wholly {
     pub refusal: u8,
@@ -209,6 +214,7 @@ pub struct Wholly {
     pub answer: usize,
 }
 
+/// A file's own refusals, then 6 for room [4.25].
 pub fn convert(bytes: &[u8], words: &mut [u32]) -> Wholly {
     let automaton = match file::read(bytes) {
         Ok(automaton) => automaton,

@@ -1,10 +1,10 @@
-//! 01, "The automaton file".
+//! The automaton file: section 3.
 
 use crate::automaton::{Automaton, Row, Value, MOST_ARITY, MOST_ROWS, MOST_STATES, MOST_SYMBOLS};
 use crate::refusal::*;
 use crate::sets;
 
-/// The longest valid file: 7 + 32 × 5 + 64 × 9 + 4.
+/// The longest valid file: 7 + 32 × 5 + 64 × 9 + 4 [3.5].
 pub const LONGEST_FILE: usize = 747;
 
 const HEAD: usize = 4;
@@ -14,7 +14,8 @@ const KIND_SYMBOL: u16 = 2;
 const KIND_ROW: u16 = 3;
 const KIND_END: u16 = 9;
 
-/// "Order: one kind 1; one or more kind 2; any number of kind 3, none allowed; one kind 9; nothing after."
+/// May a record of that kind come next? The states come first and once, then at least one symbol, then the rows, then the end. What
+/// follows the end is `read`'s to refuse [3.4, 3.9].
 fn kind_allowed(kind: u16, states_seen: bool, symbols: usize, rows: usize) -> bool {
     match kind {
         KIND_STATES => !states_seen,
@@ -24,7 +25,7 @@ fn kind_allowed(kind: u16, states_seen: bool, symbols: usize, rows: usize) -> bo
     }
 }
 
-/// "length not 3, 1, 2 to 5, 0 for its kind"
+/// May a record of that kind have that length? For a row any length that some arity gives will do here [3.2, 3.10].
 fn length_allowed(kind: u16, length: usize) -> bool {
     match kind {
         KIND_STATES => length == 3,
@@ -35,7 +36,7 @@ fn length_allowed(kind: u16, length: usize) -> bool {
     }
 }
 
-/// Reads a file: the automaton, or the number of the refusal.
+/// Reads a file: the automaton, or the number of the refusal [3.7]. What follows the end is refused last [3.16].
 pub fn read(file: &[u8]) -> Result<Automaton, u8> {
     let mut states: Option<(usize, u16)> = None;
     let mut arities = Vec::new();
@@ -54,7 +55,8 @@ pub fn read(file: &[u8]) -> Result<Automaton, u8> {
     }
 }
 
-/// The checks of one record that do not look at its values, in 01's order; gives its kind, its payload and the bytes after it.
+/// The checks of one record that do not look at its values, in their order; gives its kind, its payload and the bytes after it [3.8 to
+/// 3.11].
 fn next_record(left: &[u8], allowed: impl Fn(u16) -> bool) -> Result<(u16, &[u8], &[u8]), u8> {
     if left.len() < HEAD {
         return Err(ENDS_EARLY);
@@ -73,7 +75,7 @@ fn next_record(left: &[u8], allowed: impl Fn(u16) -> bool) -> Result<(u16, &[u8]
     Ok((kind, &left[HEAD..HEAD + length], &left[HEAD + length..]))
 }
 
-/// "state count or a final bit past it (4)"
+/// How many states, and which are final: none of them past the count [3.13].
 fn read_states(payload: &[u8]) -> Result<(usize, u16), u8> {
     let states = payload[0] as usize;
     let finals = u16::from_le_bytes([payload[1], payload[2]]);
@@ -85,7 +87,7 @@ fn read_states(payload: &[u8]) -> Result<(usize, u16), u8> {
     }
 }
 
-/// "a 33rd symbol (4) .. arity over 3 (4)"
+/// The arity of one symbol more [3.12, 3.14].
 fn read_symbol(payload: &[u8], symbols_before: usize) -> Result<usize, u8> {
     let arity = payload[0] as usize;
     if symbols_before == MOST_SYMBOLS || arity > MOST_ARITY {
@@ -95,7 +97,8 @@ fn read_symbol(payload: &[u8], symbols_before: usize) -> Result<usize, u8> {
     }
 }
 
-/// "a .. 65th row (4) .. for a row the symbol number (4), length against the symbol's arity (3), target (4), sources in order (4)"
+/// One row more: is there still a place for it, is its symbol there, has it the length that the symbol's arity asks for, and then the
+/// states [3.12, 3.15].
 fn read_row(payload: &[u8], rows_before: usize, states: usize, arities: &[usize]) -> Result<Row, u8> {
     let symbol = payload[0] as usize;
     if rows_before == MOST_ROWS || symbol >= arities.len() {
@@ -112,7 +115,7 @@ fn read_row(payload: &[u8], rows_before: usize, states: usize, arities: &[usize]
     Ok(Row { symbol, target, sources })
 }
 
-/// What the reader hands back: the refusal, and the value, all zeros where it is refused.
+/// What the reader hands back: the refusal, and the value, all zeros where it is refused [3.17].
 pub fn reading(file: &[u8]) -> (u8, Value) {
     match read(file) {
         Ok(automaton) => (DONE, automaton.to_value()),
@@ -120,13 +123,14 @@ pub fn reading(file: &[u8]) -> (u8, Value) {
     }
 }
 
+/// Puts one record after the others [3.1].
 fn record(bytes: &mut Vec<u8>, kind: u16, payload: &[u8]) {
     bytes.extend((payload.len() as u16).to_le_bytes());
     bytes.extend(kind.to_le_bytes());
     bytes.extend(payload);
 }
 
-/// The file of an automaton.
+/// The file of an automaton [3.20].
 pub fn file_of(automaton: &Automaton) -> Vec<u8> {
     let mut bytes = Vec::new();
     let finals = automaton.finals.to_le_bytes();
@@ -143,8 +147,7 @@ pub fn file_of(automaton: &Automaton) -> Vec<u8> {
     bytes
 }
 
-/// The writer: the refusal and the file's length. "It refuses 4 for a value that no file can hold, then 6 if the buffer is shorter
-/// than the file; done, it returns the file's length."
+/// The writer: the refusal and the file's length. A value that has no file is refused before the room is looked at [3.21 to 3.23].
 pub fn write(value: &Value, out: &mut [u8]) -> (u8, usize) {
     let Some(automaton) = Automaton::from_value(value) else {
         return (VALUE, 0);

@@ -1,8 +1,8 @@
-//! Document 01 once more, in plain Rust.
+//! What is asked, `docs/REQUIREMENTS.md`, once more, in plain Rust.
 //!
-//! This is written from the text of document 01 alone, and from nothing of the proved crates, so that the two can be held against
-//! each other. It is meant to be read beside the document: each part names the section that it follows, and where a plain way and a
-//! fast way differ it goes the plain way.
+//! This is written from what is asked, and not from the proved crates, so that the two can be held against each other. Where it cannot
+//! stand apart from them, `tests/README.md` says so. It is meant to be read beside that page: a comment ends with the numbers of the items
+//! that it follows, as in [3.9], and where a plain way and a fast way differ it goes the plain way.
 
 pub mod automaton;
 pub mod elimination;
@@ -12,8 +12,9 @@ pub mod printed;
 pub mod sets;
 pub mod table;
 pub mod trees;
+pub mod writing;
 
-/// Refusal numbers, from 01's table "Refusal numbers".
+/// The refusal numbers [4.0 to 4.9].
 pub mod refusal {
     pub const DONE: u8 = 0;
     pub const ENDS_EARLY: u8 = 1;

@@ -1,10 +1,10 @@
-//! 01, "Measuring and listing": the listing.
+//! The listing [9.4 to 9.8].
 
 use crate::refusal::*;
 use crate::table::{self, Node, Shape};
 
-/// "Each line: node number, kind name (empty, hole, symbol, alt, cat, iter), label (state or symbol; none for empty and alt),
-/// children; one blank between fields, a newline after each. The last line names the answer."
+/// A line for each node: its number, what it is, the state or the symbol where it has one, and its children. Below them a line for the
+/// answer [9.4 to 9.7].
 pub fn listing(nodes: &[Node], answer: usize) -> String {
     let mut text = String::new();
     for (number, node) in nodes.iter().enumerate() {
@@ -23,7 +23,7 @@ pub fn listing(nodes: &[Node], answer: usize) -> String {
     text
 }
 
-/// The refusal and the listing's length.
+/// The refusal and the listing's length [9.8].
 pub fn list(words: &[u32], count: usize, answer: usize, out: &mut [u8]) -> (u8, usize) {
     let Some(nodes) = table::sound_nodes(words, count, answer) else {
         return (NOT_SOUND, 0);

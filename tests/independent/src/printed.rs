@@ -1,15 +1,14 @@
-//! 01, "Measuring and listing": "A program reads at most 4,096 bytes of a file from standard input, converts it and prints the
-//! listing, or "refused N"." Each line ends with a newline, "refused N" too.
+//! What the program prints, which is the listing of the converted file, or a line with the refusal's number [9.9 to 9.13].
 
 use crate::elimination;
 use crate::file;
 use crate::listing;
 use crate::refusal::*;
 
-/// How much of its input the program looks at.
+/// How much of its input the program looks at [9.10].
 pub const MOST_INPUT: usize = 4096;
 
-/// The text for a file.
+/// The text for a file [9.11].
 pub fn text(bytes: &[u8]) -> String {
     match file::read(bytes) {
         Err(number) => format!("refused {number}\n"),
@@ -20,13 +19,14 @@ pub fn text(bytes: &[u8]) -> String {
     }
 }
 
-/// What the program prints for what stands on its standard input.
+/// What the program prints for what stands on its standard input [9.9].
 pub fn program_output(input: &[u8]) -> String {
     text(&input[..input.len().min(MOST_INPUT)])
 }
 
 /// The text put into lent bytes: the refusal and the length. A file's own refusal stands in the text; 6 is for room alone, of the
-/// nodes or of the bytes, and then the node table is all 0. A refused file makes no nodes and leaves the words as they were.
+/// nodes or of the bytes, and then the node table is all 0 [4.22]. A refused file makes no nodes, and where its line fits the words stay
+/// [9.13].
 pub fn printed(bytes: &[u8], words: &mut [u32], out: &mut [u8]) -> (u8, usize) {
     let text = text(bytes);
     let room = match file::read(bytes) {

@@ -1,7 +1,6 @@
-//! Sets of states. 01, "What the converter covers": "Sets of states are sixteen-bit sets with union, membership, one state taken out,
-//! the empty set and the set of one state." A state of 16 or more is in no set.
+//! Sets of states [2.7 to 2.10]. A number of 16 or more is no state: it is in no set, and taking it out changes nothing [2.9].
 
-/// Bit i stands for state i.
+/// Bit i stands for state i [2.7].
 pub type States = u16;
 
 pub const WIDTH: u32 = 16;
@@ -18,12 +17,22 @@ pub fn one(state: u32) -> States {
     }
 }
 
+/// The states whose bits are set among the low sixteen of a word [2.10].
+pub fn of_word(word: u32) -> States {
+    (0..WIDTH).filter(|&state| (word >> state) % 2 == 1).fold(empty(), |set, state| union(set, one(state)))
+}
+
 pub fn union(a: States, b: States) -> States {
     a | b
 }
 
 pub fn has(a: States, state: u32) -> bool {
     state < WIDTH && (a >> state) % 2 == 1
+}
+
+/// Is some member no smaller than this number [2.8]?
+pub fn past(a: States, count: u8) -> bool {
+    members(a).any(|state| state >= count as u32)
 }
 
 pub fn without(a: States, state: u32) -> States {

@@ -1,14 +1,16 @@
-//! 01, "The node table", and the sizes of "Measuring and listing".
+//! The node table, section 7, and written-out sizes [9.1 to 9.3].
 
 use crate::refusal::*;
 use crate::sets::{self, States};
 
+/// The words of a node [7.1].
 pub const WORDS_A_NODE: usize = 6;
+/// The most nodes of a table [2.6].
 pub const MOST_NODES: usize = 4096;
 const MOST_SYMBOL: u32 = 31;
 const MOST_ARITY: u32 = 3;
 
-/// "Six kinds". Children are node numbers.
+/// The kinds of node [7.2]. Children are node numbers.
 #[derive(Clone, PartialEq, Eq, Debug)]
 pub enum Shape {
     Empty,
@@ -47,7 +49,7 @@ impl Shape {
         }
     }
 
-    /// "Label: the state for 1, 4, 5; symbol + 256 × arity for 2; 0 for 0 and 3."
+    /// The label's word: a state, or a symbol in the low byte with its arity above it, or 0 where there is nothing to say [7.2].
     fn label(&self) -> u32 {
         match self {
             Shape::Empty | Shape::Alternation { .. } => 0,
@@ -56,8 +58,8 @@ impl Shape {
         }
     }
 
-    /// The shape that kind, label and children say, for a node of that number; nothing where a rule is broken: kind 0 to 5, states 0
-    /// to 15, symbols 0 to 31, arity 0 to 3, "Words not used are 0. A child's number is less than its parent's."
+    /// The shape that kind, label and children say, for a node of that number; nothing where there is no such kind, where the kind cannot
+    /// have that label, where a child is not an earlier node, or where a word that the kind does not use is not 0 [7.2 to 7.6].
     pub fn from_words(number: usize, kind: u32, label: u32, children: [u32; 3]) -> Option<Shape> {
         let state_fits = label < sets::WIDTH;
         let (symbol, arity) = (label % 256, label / 256);
@@ -86,8 +88,9 @@ impl Shape {
         })
     }
 
-    /// "Open set: none for empty; {q} for hole q; the union of the children's for symbol and alternation; the child's with q for
-    /// iteration; for concatenation over q, the left's if it lacks q, else the left's without q, joined with the right's."
+    /// The states that a tree of the node may still have holes for. A hole has its own; a symbol and an alternation have those of all
+    /// children; an iteration adds its letter, whose hole is its level 0. A concatenation trades its letter for what is open on the right,
+    /// but only where the letter is open on the left: else nothing of the right gets in [7.7].
     pub fn open_set(&self, open_of: impl Fn(usize) -> States) -> States {
         match self {
             Shape::Empty => sets::empty(),
@@ -108,7 +111,7 @@ impl Shape {
     }
 }
 
-/// The six words of a node.
+/// The six words of a node [7.1].
 pub fn words_of_node(node: &Node) -> [u32; WORDS_A_NODE] {
     let mut words = [node.shape.kind(), node.shape.label(), 0, 0, 0, node.open as u32];
     for (place, child) in node.shape.children().into_iter().enumerate() {
@@ -121,7 +124,7 @@ pub fn words_of_table(nodes: &[Node]) -> Vec<u32> {
     nodes.iter().flat_map(words_of_node).collect()
 }
 
-/// The first `count` nodes that the words hold, where every one of them keeps the rules.
+/// The first `count` nodes that the words hold, where every one of them keeps the rules [7.2 to 7.8].
 pub fn nodes_of(words: &[u32], count: usize) -> Option<Vec<Node>> {
     if !(1..=MOST_NODES).contains(&count) || words.len() < WORDS_A_NODE * count {
         return None;
@@ -138,7 +141,7 @@ pub fn nodes_of(words: &[u32], count: usize) -> Option<Vec<Node>> {
     Some(nodes)
 }
 
-/// The nodes of a table that is sound for a count and an answer number.
+/// The nodes, where the table is sound and the answer is one of them [7.9].
 pub fn sound_nodes(words: &[u32], count: usize, answer: usize) -> Option<Vec<Node>> {
     if answer < count {
         nodes_of(words, count)
@@ -147,12 +150,13 @@ pub fn sound_nodes(words: &[u32], count: usize, answer: usize) -> Option<Vec<Nod
     }
 }
 
-/// "A table is sound for a count and an answer number when .. The check says yes exactly then; it refuses nothing."
+/// The check [7.13].
 pub fn is_sound(words: &[u32], count: usize, answer: usize) -> bool {
     sound_nodes(words, count, answer).is_some()
 }
 
-/// Puts one node as node number `count`: 8 where it breaks a rule for a node of that number, then 6 where there is no room for it.
+/// Puts one node as node number `count`: 8 where it breaks a rule for a node of that number, then 6 where there is no room for it, in the
+/// words or in a table of the most nodes [7.15 to 7.18].
 pub fn make(words: &mut [u32], count: usize, kind: u32, label: u32, children: [u32; 3]) -> u8 {
     let Some(shape) = Shape::from_words(count, kind, label, children) else {
         return NOT_SOUND;
@@ -167,16 +171,40 @@ pub fn make(words: &mut [u32], count: usize, kind: u32, label: u32, children: [u
     DONE
 }
 
-/// The open word of a node over children whose open words may be anything. In a sound table they are sets, and this is the open set.
-/// Else a union takes their low sixteen bits, and where the open set is the left's alone, the left's word is taken whole.
+/// The open word of a node over children whose open words may be anything. In a sound table they are sets, and this is the open set. Of
+/// other words a union takes the low sixteen bits, and where the open set is that of the left alone, the left's word is taken whole [7.19].
 fn open_word(shape: &Shape, word_of: impl Fn(usize) -> u32) -> u32 {
     match shape {
-        Shape::Concatenation { state, left, .. } if !sets::has(word_of(*left) as States, *state) => word_of(*left),
-        _ => shape.open_set(|child| word_of(child) as States) as u32,
+        Shape::Concatenation { state, left, .. } if !sets::has(sets::of_word(word_of(*left)), *state) => word_of(*left),
+        _ => shape.open_set(|child| sets::of_word(word_of(child))) as u32,
     }
 }
 
-/// "Written-out size: 1 plus the sizes of the children, shared nodes counted each time, held at 4,294,967,295 when larger."
+/// How many child words a node of this kind and label uses, be it one that a sound table can have or not: none, or of a symbol as many as
+/// its label says [7.2]. A node of a kind above 5 counts as empty [7.14].
+pub fn child_count(kind: u32, label: u32) -> u32 {
+    match kind {
+        2 => label / 256,
+        3 | 4 => 2,
+        5 => 1,
+        _ => 0,
+    }
+}
+
+/// The six words of a node as they stand, where it is a whole node of the words; else six times 0 [7.20].
+pub fn node_at(words: &[u32], number: usize) -> [u32; WORDS_A_NODE] {
+    let whole = words.chunks_exact(WORDS_A_NODE).nth(number);
+    whole.map_or([0; WORDS_A_NODE], |six| std::array::from_fn(|place| six[place]))
+}
+
+/// Makes every word 0 [7.21].
+pub fn clear(words: &mut [u32]) {
+    for word in words {
+        *word = 0;
+    }
+}
+
+/// The size of each node when it is written out as a tree; what 32 bits cannot hold stays at their largest number [9.1, 9.2].
 pub fn sizes(nodes: &[Node]) -> Vec<u32> {
     let mut sizes: Vec<u32> = Vec::new();
     for node in nodes {
@@ -186,7 +214,7 @@ pub fn sizes(nodes: &[Node]) -> Vec<u32> {
     sizes
 }
 
-/// The refusal and the answer's size. "The caller lends one scratch word per node; afterwards these hold the sizes".
+/// The refusal and the answer's size. The scratch gets all the sizes [9.3].
 pub fn measure(words: &[u32], count: usize, answer: usize, scratch: &mut [u32]) -> (u8, u32) {
     let Some(nodes) = sound_nodes(words, count, answer) else {
         return (NOT_SOUND, 0);

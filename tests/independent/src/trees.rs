@@ -1,10 +1,11 @@
-//! 01, "Running a tree".
+//! Running a tree: section 5.
 
 use crate::automaton::{Automaton, Row};
 use crate::file;
 use crate::refusal::*;
 use crate::sets::{self, States};
 
+/// The most symbols of a tree that is lent [2.5].
 pub const MOST_TREE: usize = 4096;
 
 /// A tree over symbols.
@@ -14,7 +15,7 @@ pub struct Tree {
     pub children: Vec<Tree>,
 }
 
-/// What a run answers; "every number 0, set empty" where it is refused.
+/// What a run answers [5.5]; nothing is reached where it is refused [4.20].
 #[derive(Clone, Copy, PartialEq, Eq, Debug)]
 pub struct Reached {
     pub refusal: u8,
@@ -22,8 +23,8 @@ pub struct Reached {
     pub yes: bool,
 }
 
-/// "A tree is lent as 16-bit symbol numbers in prefix order."; nothing where the words are not exactly one tree of 1 to 4,096 known
-/// symbols. The known symbols are those that the file declares.
+/// The tree that the words say in prefix order [5.1]; nothing where they say none, or one and more besides, or one that is too large [5.3].
+/// A symbol is known where the file declares it, with rows or without [5.2].
 pub fn tree_of(words: &[u16], arities: &[usize]) -> Option<Tree> {
     if words.len() > MOST_TREE {
         return None;
@@ -59,7 +60,7 @@ pub fn words_of(tree: &Tree) -> Vec<u16> {
     words
 }
 
-/// "a state q is reached by f(t1..tn) exactly when some row f(q1..qn) to q has each qi reached by ti"
+/// The states that a tree reaches: the targets of its symbol's rows whose sources its parts reach, one by one [5.4].
 pub fn reached(automaton: &Automaton, tree: &Tree) -> States {
     let below: Vec<States> = tree.children.iter().map(|child| reached(automaton, child)).collect();
     let mut states = sets::empty();
@@ -75,7 +76,7 @@ fn sources_in(row: &Row, below: &[States]) -> bool {
     row.sources.iter().zip(below).all(|(&source, &states)| sets::has(states, source as u32))
 }
 
-/// "a yes exactly when it meets the final set"
+/// Is a final state among these [5.6]?
 pub fn accepts(automaton: &Automaton, states: States) -> bool {
     sets::members(states).any(|state| automaton.is_final(state as usize))
 }
@@ -95,7 +96,7 @@ pub fn run(bytes: &[u8], words: &[u16]) -> Reached {
     }
 }
 
-/// "A state is productive when some tree reaches it": round by round, each row whose sources are all productive makes its target so.
+/// Round by round, each row whose sources are all productive makes its target so [5.7, 5.8].
 pub fn productive_states(automaton: &Automaton) -> States {
     let mut states = sets::empty();
     loop {

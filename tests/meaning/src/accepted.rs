@@ -1,4 +1,4 @@
-//! 01, "Running a tree": the trees up to a size that an automaton accepts.
+//! The trees up to a size that an automaton accepts [5.6].
 
 use crate::language::{Label, Language, Tree};
 use independent::automaton::Automaton;

@@ -1,4 +1,4 @@
-//! 01, "What an expression denotes".
+//! What an expression denotes: section 6.
 
 use crate::language::{all_filled, symbol_over, Language, Limit, TooMany, Tree};
 use independent::table::{Node, Shape};
@@ -28,13 +28,13 @@ fn denoted_by_shape(shape: &Shape, earlier: &[Language], limit: Limit) -> Result
     }
 }
 
-/// "each tree of E, with every occurrence of hole q replaced by some tree of F, chosen apart for each occurrence"
+/// The trees of the left, each hole of the letter filled with any tree of the right; two holes may get two different ones [6.6].
 pub fn concatenation(state: u8, left: &Language, right: &Language, limit: Limit) -> Result<Language, TooMany> {
     all_filled(left, |hole| (hole == state).then_some(right), limit)
 }
 
-/// "the union of levels; level 0 is the hole q alone; level m+1 is level m together with E concatenated over q with level m": the
-/// levels grow, so they stop at the first that is equal to the next.
+/// Level by level from the hole alone: the next level has all of the last one, and the child filled with it. Levels only grow, so they stop
+/// at the first that is equal to the next [6.7].
 pub fn iteration(state: u8, child: &Language, limit: Limit) -> Result<Language, TooMany> {
     let mut level = Language::from([Tree::hole(state)]);
     loop {

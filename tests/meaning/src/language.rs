@@ -76,8 +76,8 @@ fn each_followed_by(begun: &[Tree], language: &Language, most: usize) -> Vec<Tre
     longer
 }
 
-/// A tree with every hole for which `choices` gives a language replaced by some tree of it, "chosen apart for each occurrence". Holes
-/// for which it gives nothing stay, and what is brought in is not replaced again.
+/// A tree with every hole for which `choices` gives a language replaced by some tree of it, each hole by its own choice. Holes for which it
+/// gives nothing stay, and so do the holes of what is put in.
 pub fn filled<'a>(tree: &Tree, choices: impl Fn(u8) -> Option<&'a Language>, limit: Limit) -> Result<Language, TooMany> {
     let mut begun = vec![Tree(Vec::new())];
     for (place, label) in tree.0.iter().enumerate() {

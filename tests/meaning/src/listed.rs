@@ -1,13 +1,13 @@
-//! 01, "Eliminating the states": what a partly eliminated list accepts.
+//! What a partly eliminated list accepts [8.31, 8.32].
 
 use crate::language::{all_filled, Language, Limit, TooMany};
 use independent::elimination::{ListRow, FINAL};
 use independent::sets;
 use independent::table::Node;
 
-/// "A partly eliminated list accepts a tree at level m+1 toward target r when some row with target r denotes it after each open hole
-/// is replaced, each apart, by a tree accepted at level m toward that state; level 0 accepts none. It accepts the tree when some level
-/// does so toward 16." `denoted` are the trees of the nodes.
+/// The trees that a list accepts, by levels that begin with nothing: in the next level a target has what its rows denote, every open hole
+/// filled with trees that its state had in this level. Levels only grow; the accepted trees are those of the added target in the last one.
+/// `denoted` are the trees of the nodes.
 pub fn accepted_by_list(nodes: &[Node], denoted: &[Language], rows: &[ListRow], limit: Limit) -> Result<Language, TooMany> {
     let mut level: Vec<Language> = vec![Language::new(); FINAL + 1];
     loop {

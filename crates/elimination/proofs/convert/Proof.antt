@@ -1,54 +1,45 @@
-use mathlib.Core.Path.{refl}
-use Rattle.elimination.proofs.Promises.{read-good, whole-faulty, whole-short, whole-done}
+use Rattle.elimination.proofs.Promises.{wholly-held, wholly-refused}
+use Rattle.automaton.proofs.Handing.{read-held}
 use borrow.Author.Needs.{needs}
 use Rattle.elimination.proofs.convert.Statement.{statement}
 use Rattle.elimination.proofs.convert.Tie as tie
+use Rattle.elimination.proofs.convert.Reads as reads
+use Rattle.elimination.proofs.convert.Lts as lts
+use Rattle.automaton.proofs.read.Reads as read-reads
+use Rattle.elimination.proofs.report.refused_whole.Reads as refused-whole-reads
+use Rattle.elimination.proofs.wholly_of.Reads as wholly-of-reads
 
+-- src/lib.rt:79:9
 read-requires : tie.Need-read-requires
-read-requires c κs = tt
+read-requires c κs = search needs
 
-refused-requires : tie.Need-refused-requires
-refused-requires c κs = tt
+-- src/lib.rt:82:9
+refused-whole-requires : tie.Need-refused-whole-requires
+refused-whole-requires c κs = search needs
 
+-- src/lib.rt:82:9
 returns : tie.Need-returns
-returns c = rw (c .refused .ensures) (whole-faulty (c .before .before .before .before .before .args .file .now) (c .before .before .read .result) (c .before .before .read .ensures) (c .before .before .before .before .before .args .nodes .now) (c .before .if1 .taken))
+returns c = let a = c .before .before .before .before .before .before .before .args in rw (c .refused-whole .ensures) (wholly-refused (a .file .now) (c .before .before .before .before .read .result) (c .before .before .before .before .read .ensures) (a .nodes .now) (c .before .if1 .taken))
 
-wholly-requires : tie.Need-wholly-requires
-wholly-requires c κs = read-good (c .before .before .before .before .before .before .args .file .now) (c .before .before .before .read .result) (c .before .before .before .read .ensures) (c .before .before .if1 .left)
+-- src/lib.rt:85:5
+wholly-of-requires : tie.Need-wholly-of-requires
+wholly-of-requires c κs = let a = c .before .before .before .before .before .before .before .before .args in read-held (a .file .now) (c .before .before .before .before .before .read .result) (c .before .before .before .before .before .read .ensures) (c .before .before .if1 .left) .handed
 
-zero-requires : tie.Need-zero-requires
-zero-requires c κs = tt
-
-refused-requires-2 : tie.Need-refused-requires-2
-refused-requires-2 c κs = tt
-
+-- src/lib.rt:76:1
 same-length : tie.Need-same-length
 same-length c = search needs
 
+-- src/lib.rt:76:1
 returns-2 : tie.Need-returns-2
-returns-2 c = rw (c .refused2 .ensures) (whole-short (c .before .before .before .before .before .before .before .before .before .before .before .before .before .before .before .args .file .now) (c .before .before .before .before .before .before .before .before .before .before .before .before .read .result) (c .before .before .before .before .before .before .before .before .before .before .before .before .read .ensures) (c .before .before .before .before .before .before .before .before .before .before .before .before .before .before .before .args .nodes .now) (c .before .before .before .before .before .before .before .before .before .before .before .if1 .left) (c .before .before .before .before .before .before .before .before .wholly .last .0) (c .before .before .before .before .before .before .before .before .wholly .result) (c .before .before .before .before .before .before .before .before .wholly .ensures) (c .before .before .before .before .before .if2 .taken) (c .before .before .before .zero .last .0) (c .before .before .before .zero .ensures) (c .before .before .before .before .before .before .before .before .wholly .kept .0))
-
-cast-t14 : tie.Need-cast-t14
-cast-t14 c = search needs
-
-same-length-2 : tie.Need-same-length-2
-same-length-2 c = search needs
-
-returns-3 : tie.Need-returns-3
-returns-3 c = whole-done (c .before .before .before .before .before .before .before .before .before .before .before .args .file .now) (c .before .before .before .before .before .before .before .before .read .result) (c .before .before .before .before .before .before .before .before .read .ensures) (c .before .before .before .before .before .before .before .before .before .before .before .args .nodes .now) (c .before .before .before .before .before .before .before .if1 .left) (c .before .before .before .before .wholly .last .0) (c .before .before .before .before .wholly .result) (c .before .before .before .before .wholly .ensures) (c .before .if2 .left) (c .before .before .before .before .wholly .result .node) refl
+returns-2 c = let a = c .before .before .before .before .before .before .before .before .before .before .before .args in wholly-held (a .file .now) (c .before .before .before .before .before .before .before .before .read .result) (c .before .before .before .before .before .before .before .before .read .ensures) (a .nodes .now) (c .before .before .wholly-of .last .1 .0) (c .before .before .wholly-of .result) (c .before .before .before .before .before .if1 .left) (c .before .before .wholly-of .ensures)
 
 pub convert-spec : {M : Type 1} → statement M
 convert-spec =
     tie.close
     (tie.spec
     read-requires
-    refused-requires
+    refused-whole-requires
     returns
-    wholly-requires
-    zero-requires
-    refused-requires-2
+    wholly-of-requires
     same-length
-    returns-2
-    cast-t14
-    same-length-2
-    returns-3)
+    returns-2)

@@ -1,75 +1,33 @@
--- `expressions::is_sound` meets its contract. The invariant: the nodes passed are sound, each over those before it. The measure is what is left of the count.
+-- `expressions::is_sound` meets its contract.
 use native.Mathlib.Omega.{arith}
-use mathlib.Core.Path.{_≡_}
-use Prim.Native.Nat.{_≤_, _-_}
-use borrow.Author.Tests.{not-true, not-false}
-use Rattle.expressions.specs.Words.{tableOf}
-use Rattle.expressions.specs.Soundness.{SoundNodes}
-use Rattle.automaton.proofs.Deciding.{decides-no, decides-yes, refuted}
-use Rattle.expressions.proofs.Checks.{sound-start, sound-more, sound-node}
+use Rattle.ground.proofs.Deciding.{decides-as, decides-no}
+use borrow.Author.Needs.{needs}
 use Rattle.expressions.proofs.is_sound.Statement.{statement}
 use Rattle.expressions.proofs.is_sound.Tie as tie
 
-abbrev Inv-loop : tie.InvT-loop
-Inv-loop words count answer i₀ i = (i ≤ count) × SoundNodes (tableOf words i)
-
-abbrev μ-loop : tie.MeasureT-loop
-μ-loop words count answer i₀ i = count - i
-
-returns : tie.Need-returns Inv-loop μ-loop
+returns : tie.Need-returns
 returns c = decides-no (λ s. omega arith)
 
-mul-if2 : tie.Need-mul-if2 Inv-loop μ-loop
-mul-if2 c = omega arith
+-- src/lib.rt:90:22
+mul-if2 : tie.Need-mul-if2
+mul-if2 c = search needs
 
-returns-2 : tie.Need-returns-2 Inv-loop μ-loop
+-- src/lib.rt:91:9
+returns-2 : tie.Need-returns-2
 returns-2 c = decides-no (λ s. omega arith)
 
-returns-3 : tie.Need-returns-3 Inv-loop μ-loop
+-- src/lib.rt:94:9
+returns-3 : tie.Need-returns-3
 returns-3 c = decides-no (λ s. omega arith)
 
-loop-holds : tie.Need-loop-holds Inv-loop μ-loop
-loop-holds c = (omega arith, sound-start _)
+-- src/lib.rt:96:5
+all-sound-requires : tie.Need-all-sound-requires
+all-sound-requires c κs = search needs
 
-node-sound-requires : tie.Need-node-sound-requires Inv-loop μ-loop
-node-sound-requires c κs = omega arith
-
-returns-4 : tie.Need-returns-4 Inv-loop μ-loop
-returns-4 c =
-    let a = c .before .before .before .before .before .before .before .before .args in
-    decides-no (λ s. refuted (c .before .node-sound .ensures) (not-true _ (c .if4 .taken)) (sound-node (a .words .now) (a .count) (c .before .before .before .loop .i) (s .kept) (c .before .before .loop-test .taken)))
-
-add-i : tie.Need-add-i Inv-loop μ-loop
-add-i c = omega arith
-
-loop-less : tie.Need-loop-less Inv-loop μ-loop
-loop-less c = omega arith
-
-loop-again : tie.Need-loop-again Inv-loop μ-loop
-loop-again c =
-    let a = c .before .before .before .before .before .before .before .before .args in
-    (omega arith, sound-more (a .words .now) (c .before .before .before .loop .i) (c .before .before .before .loop .inv .1) (c .before .node-sound .ensures .only (not-false _ (c .if4 .left))))
-
-returns-5 : tie.Need-returns-5 Inv-loop μ-loop
-returns-5 c =
-    let a = c .before .before .before .before .before .before .args in
-    let e : c .before .loop .i ≡ a .count = omega arith in
-    decides-yes (record { some = omega arith; few = omega arith; held = omega arith; within = omega arith; kept = rw e at (c .before .loop .inv .1) })
+-- src/lib.rt:84:1
+returns-4 : tie.Need-returns-4
+returns-4 c = decides-as (c .all-sound .ensures) (λ k. record { some = omega arith; few = omega arith; roomy = omega arith; within = omega arith; kept = k }) (λ s. s .kept)
 
 pub is-sound-spec : {M : Type 1} → statement M
 is-sound-spec =
-    tie.close
-    (tie.spec
-    Inv-loop
-    μ-loop
-    returns
-    mul-if2
-    returns-2
-    returns-3
-    loop-holds
-    node-sound-requires
-    returns-4
-    add-i
-    loop-less
-    loop-again
-    returns-5)
+    tie.close (tie.spec returns mul-if2 returns-2 returns-3 all-sound-requires returns-4)

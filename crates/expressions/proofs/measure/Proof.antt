@@ -1,7 +1,7 @@
 -- `expressions::measure` meets its contract: one law for each outcome.
 use native.Mathlib.Omega.{arith}
 use borrow.Author.Tests.{not-true, not-false}
-use Rattle.automaton.proofs.Deciding.{refuted}
+use Rattle.ground.proofs.Deciding.{refuted}
 use Rattle.expressions.proofs.Written.{measures-unsound, measures-short, measures-done}
 use borrow.Author.Needs.{needs}
 use Rattle.expressions.proofs.measure.Statement.{statement}
@@ -19,7 +19,7 @@ returns-2 c =
     measures-short (a .words .now) (a .count) (a .answer) (a .scratch .now) (c .before .before .is-sound .ensures .only (not-false _ (c .before .if1 .left))) (c .if2 .taken)
 
 fill-requires : tie.Need-fill-requires
-fill-requires c κs = let s = c .before .before .before .is-sound .ensures .only (not-false _ (c .before .before .if1 .left)) in (s .held, (c .before .if2 .left, s .kept))
+fill-requires c κs = let s = c .before .before .before .is-sound .ensures .only (not-false _ (c .before .before .if1 .left)) in (s .roomy, (c .before .if2 .left, s .kept))
 
 mul-t8 : tie.Need-mul-t8
 mul-t8 c = let s = c .before .before .before .before .before .before .is-sound .ensures .only (not-false _ (c .before .before .before .before .before .if1 .left)) in omega (arith, s .within, s .few)

@@ -1,7 +1,8 @@
-use mathlib.Core.Path.{sym, subst}
+use mathlib.Core.Path.{sym, ap, subst, _∙_}
 use Rattle.automaton.specs.Held.{Held}
-use Rattle.trees.specs.Promises.{StatesOf, ProductivePromise}
-use Rattle.trees.proofs.Promised.{productive-fault, productive-held, read-fault, read-held}
+use Rattle.trees.specs.Promises.{noStates, StatesOf, ProductivePromise}
+use Rattle.trees.proofs.Promised.{productive-fault, productive-held}
+use Rattle.automaton.proofs.Handing.{read-fault, read-held}
 use borrow.Author.Needs.{needs}
 use Rattle.trees.proofs.productive.Statement.{statement}
 use Rattle.trees.proofs.productive.Tie as tie
@@ -17,19 +18,19 @@ refused-requires c κs = search needs
 -- src/lib.rt:44:9
 returns : tie.Need-returns
 returns c =
-    let file = c .before .before .before .before .args .file .now in
-    let fault = read-fault file (c .before .before .read .result) (c .before .before .read .ensures) (c .before .if1 .taken) in
-    subst (ProductivePromise file) (sym (c .refused .ensures)) (productive-fault file _ (fault .0) (fault .1))
+    let file = c .before .before .before .before .before .before .args .file .now in
+    let fault = read-fault file (c .before .before .before .before .read .result) (c .before .before .before .before .read .ensures) (c .before .if1 .taken) in
+    subst (ProductivePromise file) (sym (c .refused .ensures ∙ ap noStates (fault .given))) (productive-fault file (fault .number) (fault .offset) (fault .in-file))
 
 -- src/lib.rt:47:5
 answer-requires : tie.Need-answer-requires
-answer-requires c κs = read-held _ (c .before .before .read .result) (c .before .before .read .ensures) (c .before .if1 .left) .valid
+answer-requires c κs = read-held _ (c .before .before .before .before .read .result) (c .before .before .before .before .read .ensures) (c .before .if1 .left) .handed .valid
 
 -- src/lib.rt:38:1
 returns-2 : tie.Need-returns-2
 returns-2 c =
-    let file = c .before .before .before .before .before .args .file .now in
-    let handed = read-held file (c .before .before .before .read .result) (c .before .before .before .read .ensures) (c .before .before .if1 .left) in
+    let file = c .before .before .before .before .before .before .before .args .file .now in
+    let handed = read-held file (c .before .before .before .before .before .read .result) (c .before .before .before .before .before .read .ensures) (c .before .before .if1 .left) in
     productive-held file (handed .held) _ (handed .in-file) (subst (λ (held : Held). StatesOf held (c .answer .result)) (handed .said) (c .answer .ensures))
 
 pub productive-spec : {M : Type 1} → statement M

@@ -23,7 +23,9 @@ no-frame-requires c κs = search needs
 
 -- src/reader.rt:76:9
 returns : tie.Need-returns
-returns c = c .no-frame .ensures ∙ sym (frame-short (allowedBy (c .before .before .before .args .first) (c .before .before .before .args .symbol) (c .before .before .before .args .rest)) (now (c .before .before .before .args .file)) (c .before .before .before .args .at) 0 0 (c .before .if1 .taken))
+returns c =
+    let a = c .before .before .before .args in
+    c .no-frame .ensures ∙ sym (frame-short (allowedBy (a .first) (a .symbol) (a .rest)) (now (a .file)) (a .at) 0 0 (c .before .if1 .taken))
 
 -- src/reader.rt:78:9
 number-at-requires : tie.Need-number-at-requires
@@ -47,7 +49,9 @@ no-frame-requires-2 c κs = search needs
 
 -- src/reader.rt:81:9
 returns-2 : tie.Need-returns-2
-returns-2 c = c .no-frame2 .ensures ∙ sym (frame-kind (allowedBy (c .before .before .before .before .before .before .before .args .first) (c .before .before .before .before .before .before .before .args .symbol) (c .before .before .before .before .before .before .before .args .rest)) (now (c .before .before .before .before .before .before .before .args .file)) (c .before .before .before .before .before .before .before .args .at) (c .before .before .before .before .number-at .result) (c .before .before .before .number-at2 .result) (c .before .before .before .before .before .if1 .left) (c .before .before .before .before .number-at .ensures) (c .before .before .before .number-at2 .ensures) (sym (c .before .before .kind-allowed .ensures) ∙ not-true _ (c .before .if2 .taken)))
+returns-2 c =
+    let a = c .before .before .before .before .before .before .before .args in
+    c .no-frame2 .ensures ∙ sym (frame-kind (allowedBy (a .first) (a .symbol) (a .rest)) (now (a .file)) (a .at) (c .before .before .before .before .number-at .result) (c .before .before .before .number-at2 .result) (c .before .before .before .before .before .if1 .left) (c .before .before .before .before .number-at .ensures) (c .before .before .before .number-at2 .ensures) (sym (c .before .before .kind-allowed .ensures) ∙ not-true _ (c .before .if2 .taken)))
 
 -- src/reader.rt:83:9
 length-allowed-requires : tie.Need-length-allowed-requires
@@ -59,7 +63,9 @@ no-frame-requires-3 c κs = search needs
 
 -- src/reader.rt:84:9
 returns-3 : tie.Need-returns-3
-returns-3 c = c .no-frame3 .ensures ∙ sym (frame-length (allowedBy (c .before .before .before .before .before .before .before .before .before .args .first) (c .before .before .before .before .before .before .before .before .before .args .symbol) (c .before .before .before .before .before .before .before .before .before .args .rest)) (now (c .before .before .before .before .before .before .before .before .before .args .file)) (c .before .before .before .before .before .before .before .before .before .args .at) (c .before .before .before .before .before .before .number-at .result) (c .before .before .before .before .before .number-at2 .result) (c .before .before .before .before .before .before .before .if1 .left) (c .before .before .before .before .before .before .number-at .ensures) (c .before .before .before .before .before .number-at2 .ensures) (sym (c .before .before .before .before .kind-allowed .ensures) ∙ not-false _ (c .before .before .before .if2 .left)) (sym (c .before .before .length-allowed .ensures) ∙ not-true _ (c .before .if3 .taken)))
+returns-3 c =
+    let a = c .before .before .before .before .before .before .before .before .before .args in
+    c .no-frame3 .ensures ∙ sym (frame-length (allowedBy (a .first) (a .symbol) (a .rest)) (now (a .file)) (a .at) (c .before .before .before .before .before .before .number-at .result) (c .before .before .before .before .before .number-at2 .result) (c .before .before .before .before .before .before .before .if1 .left) (c .before .before .before .before .before .before .number-at .ensures) (c .before .before .before .before .before .number-at2 .ensures) (sym (c .before .before .before .before .kind-allowed .ensures) ∙ not-false _ (c .before .before .before .if2 .left)) (sym (c .before .before .length-allowed .ensures) ∙ not-true _ (c .before .if3 .taken)))
 
 -- src/reader.rt:86:20
 cast-if4 : tie.Need-cast-if4
@@ -75,11 +81,15 @@ no-frame-requires-4 c κs = search needs
 
 -- src/reader.rt:87:9
 returns-4 : tie.Need-returns-4
-returns-4 c = c .no-frame4 .ensures ∙ sym (frame-cut (allowedBy (c .before .before .before .before .before .before .before .before .before .before .args .first) (c .before .before .before .before .before .before .before .before .before .before .args .symbol) (c .before .before .before .before .before .before .before .before .before .before .args .rest)) (now (c .before .before .before .before .before .before .before .before .before .before .args .file)) (c .before .before .before .before .before .before .before .before .before .before .args .at) (c .before .before .before .before .before .before .before .number-at .result) (c .before .before .before .before .before .before .number-at2 .result) (c .before .before .before .before .before .before .before .before .if1 .left) (c .before .before .before .before .before .before .before .number-at .ensures) (c .before .before .before .before .before .before .number-at2 .ensures) (sym (c .before .before .before .before .before .kind-allowed .ensures) ∙ not-false _ (c .before .before .before .before .if2 .left)) (sym (c .before .before .before .length-allowed .ensures) ∙ not-false _ (c .before .before .if3 .left)) (c .before .if4 .taken))
+returns-4 c =
+    let a = c .before .before .before .before .before .before .before .before .before .before .args in
+    c .no-frame4 .ensures ∙ sym (frame-cut (allowedBy (a .first) (a .symbol) (a .rest)) (now (a .file)) (a .at) (c .before .before .before .before .before .before .before .number-at .result) (c .before .before .before .before .before .before .number-at2 .result) (c .before .before .before .before .before .before .before .before .if1 .left) (c .before .before .before .before .before .before .before .number-at .ensures) (c .before .before .before .before .before .before .number-at2 .ensures) (sym (c .before .before .before .before .before .kind-allowed .ensures) ∙ not-false _ (c .before .before .before .before .if2 .left)) (sym (c .before .before .before .length-allowed .ensures) ∙ not-false _ (c .before .before .if3 .left)) (c .before .if4 .taken))
 
 -- src/reader.rt:70:1
 returns-5 : tie.Need-returns-5
-returns-5 c = sym (frame-whole (allowedBy (c .before .before .before .before .before .before .before .before .before .args .first) (c .before .before .before .before .before .before .before .before .before .args .symbol) (c .before .before .before .before .before .before .before .before .before .args .rest)) (now (c .before .before .before .before .before .before .before .before .before .args .file)) (c .before .before .before .before .before .before .before .before .before .args .at) (c .before .before .before .before .before .before .number-at .result) (c .before .before .before .before .before .number-at2 .result) (c .before .before .before .before .before .before .before .if1 .left) (c .before .before .before .before .before .before .number-at .ensures) (c .before .before .before .before .before .number-at2 .ensures) (sym (c .before .before .before .before .kind-allowed .ensures) ∙ not-false _ (c .before .before .before .if2 .left)) (sym (c .before .before .length-allowed .ensures) ∙ not-false _ (c .before .if3 .left)) (c .if4 .left))
+returns-5 c =
+    let a = c .before .before .before .before .before .before .before .before .before .args in
+    sym (frame-whole (allowedBy (a .first) (a .symbol) (a .rest)) (now (a .file)) (a .at) (c .before .before .before .before .before .before .number-at .result) (c .before .before .before .before .before .number-at2 .result) (c .before .before .before .before .before .before .before .if1 .left) (c .before .before .before .before .before .before .number-at .ensures) (c .before .before .before .before .before .number-at2 .ensures) (sym (c .before .before .before .before .kind-allowed .ensures) ∙ not-false _ (c .before .before .before .if2 .left)) (sym (c .before .before .length-allowed .ensures) ∙ not-false _ (c .before .if3 .left)) (c .if4 .left))
 
 pub frame-at-spec : {M : Type 1} → statement M
 frame-at-spec =

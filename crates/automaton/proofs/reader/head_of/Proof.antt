@@ -10,7 +10,6 @@ use Rattle.automaton.proofs.reader.head_of.Lts as lts
 use Rattle.automaton.proofs.reader.frame_at.Reads as frame-at-reads
 use Rattle.automaton.proofs.reader.no_head.Reads as no-head-reads
 use Rattle.automaton.proofs.reader.number_at.Reads as number-at-reads
-use Rattle.automaton.proofs.reader.past.Reads as past-reads
 
 -- src/reader.rt:126:9
 frame-at-requires : tie.Need-frame-at-requires

@@ -6,7 +6,7 @@ use Rattle.automaton.proofs.reader.row_at.Statement.{statement}
 use Rattle.automaton.proofs.reader.row_at.Tie as tie
 use Rattle.automaton.proofs.reader.row_at.Reads as reads
 use Rattle.automaton.proofs.reader.row_at.Lts as lts
-use Rattle.automaton.proofs.reader.index.Reads as index-reads
+use Rattle.ground.proofs.index.Reads as index-reads
 use Rattle.automaton.proofs.reader.no_row.Reads as no-row-reads
 use Rattle.automaton.proofs.reader.sources_at.Reads as sources-at-reads
 
@@ -24,7 +24,9 @@ no-row-requires c κs = search needs
 
 -- src/reader.rt:246:9
 returns : tie.Need-returns
-returns c = row-unknown (now (c .before .before .before .before .args .file)) (c .before .before .before .before .args .at) (c .before .before .before .before .args .size) (c .before .before .before .before .args .states) (c .before .before .before .before .args .symbols) (now (c .before .before .before .before .args .arities)) (c .before .before .before .before .pre .0) (c .before .before .before .before .pre .1 .1 .0) (c .before .if1 .taken) (c .no-row .result) (c .no-row .ensures)
+returns c =
+    let a = c .before .before .before .before .args in
+    row-unknown (now (a .file)) (a .at) (a .size) (a .states) (a .symbols) (now (a .arities)) (c .before .before .before .before .pre .0) (c .before .before .before .before .pre .1 .1 .0) (c .before .if1 .taken) (c .no-row .result) (c .no-row .ensures)
 
 -- src/reader.rt:248:31
 cast-index : tie.Need-cast-index
@@ -48,7 +50,9 @@ no-row-requires-2 c κs = search needs
 
 -- src/reader.rt:250:9
 returns-2 : tie.Need-returns-2
-returns-2 c = row-unsuited (now (c .before .before .before .before .before .before .before .args .file)) (c .before .before .before .before .before .before .before .args .at) (c .before .before .before .before .before .before .before .args .size) (c .before .before .before .before .before .before .before .args .states) (c .before .before .before .before .before .before .before .args .symbols) (now (c .before .before .before .before .before .before .before .args .arities)) (c .before .before .before .before .before .before .before .pre .0) (c .before .before .before .before .before .before .before .pre .1 .1 .0) (c .before .before .before .before .if1 .left) (λ e. c .before .if2 .taken (rw (c .before .before .index .ensures .0) e)) (c .no-row2 .result) (c .no-row2 .ensures)
+returns-2 c =
+    let a = c .before .before .before .before .before .before .before .args in
+    row-unsuited (now (a .file)) (a .at) (a .size) (a .states) (a .symbols) (now (a .arities)) (c .before .before .before .before .before .before .before .pre .0) (c .before .before .before .before .before .before .before .pre .1 .1 .0) (c .before .before .before .before .if1 .left) (λ e. c .before .if2 .taken (rw (c .before .before .index .ensures .0) e)) (c .no-row2 .result) (c .no-row2 .ensures)
 
 -- src/reader.rt:252:23
 add-target : tie.Need-add-target
@@ -64,7 +68,9 @@ no-row-requires-3 c κs = search needs
 
 -- src/reader.rt:254:9
 returns-3 : tie.Need-returns-3
-returns-3 c = row-aimless (now (c .before .before .before .before .before .before .before .before .before .args .file)) (c .before .before .before .before .before .before .before .before .before .args .at) (c .before .before .before .before .before .before .before .before .before .args .size) (c .before .before .before .before .before .before .before .before .before .args .states) (c .before .before .before .before .before .before .before .before .before .args .symbols) (now (c .before .before .before .before .before .before .before .before .before .args .arities)) (c .before .before .before .before .before .before .before .before .before .pre .0) (c .before .before .before .before .before .before .before .before .before .pre .1 .1 .0) (c .before .before .before .before .before .before .if1 .left) (rw (c .before .before .before .before .index .ensures .0) at (c .before .before .before .if2 .left)) (c .before .if3 .taken) (c .no-row3 .result) (c .no-row3 .ensures)
+returns-3 c =
+    let a = c .before .before .before .before .before .before .before .before .before .args in
+    row-aimless (now (a .file)) (a .at) (a .size) (a .states) (a .symbols) (now (a .arities)) (c .before .before .before .before .before .before .before .before .before .pre .0) (c .before .before .before .before .before .before .before .before .before .pre .1 .1 .0) (c .before .before .before .before .before .before .if1 .left) (rw (c .before .before .before .before .index .ensures .0) at (c .before .before .before .if2 .left)) (c .before .if3 .taken) (c .no-row3 .result) (c .no-row3 .ensures)
 
 -- src/reader.rt:256:36
 add-sources-at : tie.Need-add-sources-at
@@ -80,11 +86,15 @@ no-row-requires-4 c κs = search needs
 
 -- src/reader.rt:258:9
 returns-4 : tie.Need-returns-4
-returns-4 c = row-sourceless (now (c .before .before .before .before .before .before .before .before .before .before .before .before .args .file)) (c .before .before .before .before .before .before .before .before .before .before .before .before .args .at) (c .before .before .before .before .before .before .before .before .before .before .before .before .args .size) (c .before .before .before .before .before .before .before .before .before .before .before .before .args .states) (c .before .before .before .before .before .before .before .before .before .before .before .before .args .symbols) (now (c .before .before .before .before .before .before .before .before .before .before .before .before .args .arities)) (c .before .before .before .before .before .before .before .before .before .before .before .before .pre .0) (c .before .before .before .before .before .before .before .before .before .before .before .before .pre .1 .1 .0) (c .before .before .before .before .before .before .before .before .before .if1 .left) (rw (c .before .before .before .before .before .before .before .index .ensures .0) at (c .before .before .before .before .before .before .if2 .left)) (c .before .before .before .before .if3 .left) (c .before .before .before .sources-at .result) (rw (c .before .before .before .before .before .before .before .index .ensures .0) at (c .before .before .before .sources-at .ensures)) (not-true _ (c .before .if4 .taken)) (c .no-row4 .result) (c .no-row4 .ensures)
+returns-4 c =
+    let a = c .before .before .before .before .before .before .before .before .before .before .before .before .args in
+    row-sourceless (now (a .file)) (a .at) (a .size) (a .states) (a .symbols) (now (a .arities)) (c .before .before .before .before .before .before .before .before .before .before .before .before .pre .0) (c .before .before .before .before .before .before .before .before .before .before .before .before .pre .1 .1 .0) (c .before .before .before .before .before .before .before .before .before .if1 .left) (rw (c .before .before .before .before .before .before .before .index .ensures .0) at (c .before .before .before .before .before .before .if2 .left)) (c .before .before .before .before .if3 .left) (c .before .before .before .sources-at .result) (rw (c .before .before .before .before .before .before .before .index .ensures .0) at (c .before .before .before .sources-at .ensures)) (not-true _ (c .before .if4 .taken)) (c .no-row4 .result) (c .no-row4 .ensures)
 
 -- src/reader.rt:240:1
 returns-5 : tie.Need-returns-5
-returns-5 c = row-good (now (c .before .before .before .before .before .before .before .before .before .before .before .before .args .file)) (c .before .before .before .before .before .before .before .before .before .before .before .before .args .at) (c .before .before .before .before .before .before .before .before .before .before .before .before .args .size) (c .before .before .before .before .before .before .before .before .before .before .before .before .args .states) (c .before .before .before .before .before .before .before .before .before .before .before .before .args .symbols) (now (c .before .before .before .before .before .before .before .before .before .before .before .before .args .arities)) (c .before .before .before .before .before .before .before .before .before .before .before .before .pre .0) (c .before .before .before .before .before .before .before .before .before .before .before .before .pre .1 .1 .0) (c .before .before .before .before .before .before .before .before .before .if1 .left) (rw (c .before .before .before .before .before .before .before .index .ensures .0) at (c .before .before .before .before .before .before .if2 .left)) (c .before .before .before .before .if3 .left) (c .before .before .before .sources-at .result) (rw (c .before .before .before .before .before .before .before .index .ensures .0) at (c .before .before .before .sources-at .ensures)) (not-false _ (c .before .if4 .left))
+returns-5 c =
+    let a = c .before .before .before .before .before .before .before .before .before .before .before .before .args in
+    row-good (now (a .file)) (a .at) (a .size) (a .states) (a .symbols) (now (a .arities)) (c .before .before .before .before .before .before .before .before .before .before .before .before .pre .0) (c .before .before .before .before .before .before .before .before .before .before .before .before .pre .1 .1 .0) (c .before .before .before .before .before .before .before .before .before .if1 .left) (rw (c .before .before .before .before .before .before .before .index .ensures .0) at (c .before .before .before .before .before .before .if2 .left)) (c .before .before .before .before .if3 .left) (c .before .before .before .sources-at .result) (rw (c .before .before .before .before .before .before .before .index .ensures .0) at (c .before .before .before .sources-at .ensures)) (not-false _ (c .before .if4 .left))
 
 pub row-at-spec : {M : Type 1} → statement M
 row-at-spec =

@@ -23,7 +23,9 @@ no-rows-requires c κs = search needs
 
 -- src/reader.rt:276:5
 loop-holds : tie.Need-loop-holds Inv-loop μ-loop
-loop-holds c = rw (c .no-rows .ensures) (rows-start (c .before .before .args .file .now) (c .before .before .args .start) (c .before .before .args .states) (c .before .before .args .symbols) (c .before .before .args .arities .now) (c .before .before .pre))
+loop-holds c =
+    let a = c .before .before .args in
+    rw (c .no-rows .ensures) (rows-start (a .file .now) (a .start) (a .states) (a .symbols) (a .arities .now) (c .before .before .pre))
 
 -- src/reader.rt:277:13
 frame-at-requires : tie.Need-frame-at-requires Inv-loop μ-loop
@@ -31,7 +33,10 @@ frame-at-requires c κs = search needs
 
 -- src/reader.rt:280:13
 returns : tie.Need-returns Inv-loop μ-loop
-returns c = rows-fault (c .before .before .before .before .before .args .file .now) (c .before .before .before .before .before .args .start) (c .before .before .before .before .before .args .states) (c .before .before .before .before .before .args .symbols) (c .before .before .before .before .before .args .arities .now) (c .before .before .loop .rows) (c .before .before .loop .count) (c .before .before .loop .at) (c .before .before .loop .inv) (c .before .frame-at .result) (c .before .frame-at .ensures) (c .if1 .taken)
+returns c =
+    let a = c .before .before .before .before .before .args in
+    let l = c .before .before .loop in
+    rows-fault (a .file .now) (a .start) (a .states) (a .symbols) (a .arities .now) (l .rows) (l .count) (l .at) (l .inv) (c .before .frame-at .result) (c .before .frame-at .ensures) (c .if1 .taken)
 
 -- src/reader.rt:283:16
 add-if3 : tie.Need-add-if3 Inv-loop μ-loop
@@ -39,15 +44,24 @@ add-if3 c = search needs
 
 -- src/reader.rt:284:17
 returns-2 : tie.Need-returns-2 Inv-loop μ-loop
-returns-2 c = rows-after (c .before .before .before .before .before .before .before .before .args .file .now) (c .before .before .before .before .before .before .before .before .args .start) (c .before .before .before .before .before .before .before .before .args .states) (c .before .before .before .before .before .before .before .before .args .symbols) (c .before .before .before .before .before .before .before .before .args .arities .now) (c .before .before .before .before .before .loop .rows) (c .before .before .before .before .before .loop .count) (c .before .before .before .before .before .loop .at) (c .before .before .before .before .before .loop .inv) (c .before .before .before .before .frame-at .result) (c .before .before .before .before .frame-at .ensures) (c .before .before .before .if1 .left) (c .before .if2 .taken) (c .if3 .taken)
+returns-2 c =
+    let a = c .before .before .before .before .before .before .before .before .args in
+    let l = c .before .before .before .before .before .loop in
+    rows-after (a .file .now) (a .start) (a .states) (a .symbols) (a .arities .now) (l .rows) (l .count) (l .at) (l .inv) (c .before .before .before .before .frame-at .result) (c .before .before .before .before .frame-at .ensures) (c .before .before .before .if1 .left) (c .before .if2 .taken) (c .if3 .taken)
 
 -- src/reader.rt:286:13
 returns-3 : tie.Need-returns-3 Inv-loop μ-loop
-returns-3 c = rows-ended (c .before .before .before .before .before .before .before .before .args .file .now) (c .before .before .before .before .before .before .before .before .args .start) (c .before .before .before .before .before .before .before .before .args .states) (c .before .before .before .before .before .before .before .before .args .symbols) (c .before .before .before .before .before .before .before .before .args .arities .now) (c .before .before .before .before .before .loop .rows) (c .before .before .before .before .before .loop .count) (c .before .before .before .before .before .loop .at) (c .before .before .before .before .before .loop .inv) (c .before .before .before .before .frame-at .result) (c .before .before .before .before .frame-at .ensures) (c .before .before .before .if1 .left) (c .before .if2 .taken) (c .if3 .left)
+returns-3 c =
+    let a = c .before .before .before .before .before .before .before .before .args in
+    let l = c .before .before .before .before .before .loop in
+    rows-ended (a .file .now) (a .start) (a .states) (a .symbols) (a .arities .now) (l .rows) (l .count) (l .at) (l .inv) (c .before .before .before .before .frame-at .result) (c .before .before .before .before .frame-at .ensures) (c .before .before .before .if1 .left) (c .before .if2 .taken) (c .if3 .left)
 
 -- src/reader.rt:289:13
 returns-4 : tie.Need-returns-4 Inv-loop μ-loop
-returns-4 c = rows-many (c .before .before .before .before .before .before .before .before .args .file .now) (c .before .before .before .before .before .before .before .before .args .start) (c .before .before .before .before .before .before .before .before .args .states) (c .before .before .before .before .before .before .before .before .args .symbols) (c .before .before .before .before .before .before .before .before .args .arities .now) (c .before .before .before .before .before .loop .rows) (c .before .before .before .before .before .loop .count) (c .before .before .before .before .before .loop .at) (c .before .before .before .before .before .loop .inv) (c .before .before .before .before .frame-at .result) (c .before .before .before .before .frame-at .ensures) (c .before .before .before .if1 .left) (c .before .if2 .left) (c .if4 .taken)
+returns-4 c =
+    let a = c .before .before .before .before .before .before .before .before .args in
+    let l = c .before .before .before .before .before .loop in
+    rows-many (a .file .now) (a .start) (a .states) (a .symbols) (a .arities .now) (l .rows) (l .count) (l .at) (l .inv) (c .before .before .before .before .frame-at .result) (c .before .before .before .before .frame-at .ensures) (c .before .before .before .if1 .left) (c .before .if2 .left) (c .if4 .taken)
 
 -- src/reader.rt:291:20
 cast-size : tie.Need-cast-size Inv-loop μ-loop
@@ -55,11 +69,17 @@ cast-size c = search needs
 
 -- src/reader.rt:292:13
 row-at-requires : tie.Need-row-at-requires Inv-loop μ-loop
-row-at-requires c κs = (row-two (c .before .before .before .before .before .before .before .before .before .args .file .now) (c .before .before .before .before .before .before .before .before .before .args .start) (c .before .before .before .before .before .before .before .before .before .args .states) (c .before .before .before .before .before .before .before .before .before .args .symbols) (c .before .before .before .before .before .before .before .before .before .args .arities .now) (c .before .before .before .before .before .before .loop .rows) (c .before .before .before .before .before .before .loop .count) (c .before .before .before .before .before .before .loop .at) (c .before .before .before .before .before .before .loop .inv) (c .before .before .before .before .before .frame-at .result) (c .before .before .before .before .before .frame-at .ensures) (c .before .before .before .before .if1 .left) (c .before .before .if2 .left), (row-five (c .before .before .before .before .before .before .before .before .before .args .file .now) (c .before .before .before .before .before .before .before .before .before .args .start) (c .before .before .before .before .before .before .before .before .before .args .states) (c .before .before .before .before .before .before .before .before .before .args .symbols) (c .before .before .before .before .before .before .before .before .before .args .arities .now) (c .before .before .before .before .before .before .loop .rows) (c .before .before .before .before .before .before .loop .count) (c .before .before .before .before .before .before .loop .at) (c .before .before .before .before .before .before .loop .inv) (c .before .before .before .before .before .frame-at .result) (c .before .before .before .before .before .frame-at .ensures) (c .before .before .before .before .if1 .left) (c .before .before .if2 .left), (row-there (c .before .before .before .before .before .before .before .before .before .args .file .now) (c .before .before .before .before .before .before .before .before .before .args .start) (c .before .before .before .before .before .before .before .before .before .args .states) (c .before .before .before .before .before .before .before .before .before .args .symbols) (c .before .before .before .before .before .before .before .before .before .args .arities .now) (c .before .before .before .before .before .before .loop .rows) (c .before .before .before .before .before .before .loop .count) (c .before .before .before .before .before .before .loop .at) (c .before .before .before .before .before .before .loop .inv) (c .before .before .before .before .before .frame-at .result) (c .before .before .before .before .before .frame-at .ensures) (c .before .before .before .before .if1 .left) (c .before .before .if2 .left), c .before .before .before .before .before .before .before .before .before .pre .few)))
+row-at-requires c κs =
+    let a = c .before .before .before .before .before .before .before .before .before .args in
+    let l = c .before .before .before .before .before .before .loop in
+    (row-two (a .file .now) (a .start) (a .states) (a .symbols) (a .arities .now) (l .rows) (l .count) (l .at) (l .inv) (c .before .before .before .before .before .frame-at .result) (c .before .before .before .before .before .frame-at .ensures) (c .before .before .before .before .if1 .left) (c .before .before .if2 .left), (row-five (a .file .now) (a .start) (a .states) (a .symbols) (a .arities .now) (l .rows) (l .count) (l .at) (l .inv) (c .before .before .before .before .before .frame-at .result) (c .before .before .before .before .before .frame-at .ensures) (c .before .before .before .before .if1 .left) (c .before .before .if2 .left), (row-there (a .file .now) (a .start) (a .states) (a .symbols) (a .arities .now) (l .rows) (l .count) (l .at) (l .inv) (c .before .before .before .before .before .frame-at .result) (c .before .before .before .before .before .frame-at .ensures) (c .before .before .before .before .if1 .left) (c .before .before .if2 .left), c .before .before .before .before .before .before .before .before .before .pre .few)))
 
 -- src/reader.rt:295:13
 returns-5 : tie.Need-returns-5 Inv-loop μ-loop
-returns-5 c = rows-wrong (c .before .before .before .before .before .before .before .before .before .before .before .args .file .now) (c .before .before .before .before .before .before .before .before .before .before .before .args .start) (c .before .before .before .before .before .before .before .before .before .before .before .args .states) (c .before .before .before .before .before .before .before .before .before .before .before .args .symbols) (c .before .before .before .before .before .before .before .before .before .before .before .args .arities .now) (c .before .before .before .before .before .before .before .before .loop .rows) (c .before .before .before .before .before .before .before .before .loop .count) (c .before .before .before .before .before .before .before .before .loop .at) (c .before .before .before .before .before .before .before .before .loop .inv) (c .before .before .before .before .before .before .before .frame-at .result) (c .before .before .before .before .before .before .before .frame-at .ensures) (c .before .before .before .before .before .before .if1 .left) (c .before .before .before .before .if2 .left) (c .before .before .before .if4 .left) (c .before .row-at .result) (c .before .row-at .ensures) (c .if5 .taken)
+returns-5 c =
+    let a = c .before .before .before .before .before .before .before .before .before .before .before .args in
+    let l = c .before .before .before .before .before .before .before .before .loop in
+    rows-wrong (a .file .now) (a .start) (a .states) (a .symbols) (a .arities .now) (l .rows) (l .count) (l .at) (l .inv) (c .before .before .before .before .before .before .before .frame-at .result) (c .before .before .before .before .before .before .before .frame-at .ensures) (c .before .before .before .before .before .before .if1 .left) (c .before .before .before .before .if2 .left) (c .before .before .before .if4 .left) (c .before .row-at .result) (c .before .row-at .ensures) (c .if5 .taken)
 
 -- src/reader.rt:298:14
 cast-rows : tie.Need-cast-rows Inv-loop μ-loop
@@ -87,11 +107,17 @@ add-at-2 c = search needs
 
 -- src/reader.rt:276:5
 loop-less : tie.Need-loop-less Inv-loop μ-loop
-loop-less c = omega (arith, row-there (c .before .before .before .before .before .before .before .before .before .before .before .before .args .file .now) (c .before .before .before .before .before .before .before .before .before .before .before .before .args .start) (c .before .before .before .before .before .before .before .before .before .before .before .before .args .states) (c .before .before .before .before .before .before .before .before .before .before .before .before .args .symbols) (c .before .before .before .before .before .before .before .before .before .before .before .before .args .arities .now) (c .before .before .before .before .before .before .before .before .before .loop .rows) (c .before .before .before .before .before .before .before .before .before .loop .count) (c .before .before .before .before .before .before .before .before .before .loop .at) (c .before .before .before .before .before .before .before .before .before .loop .inv) (c .before .before .before .before .before .before .before .before .frame-at .result) (c .before .before .before .before .before .before .before .before .frame-at .ensures) (c .before .before .before .before .before .before .before .if1 .left) (c .before .before .before .before .before .if2 .left))
+loop-less c =
+    let a = c .before .before .before .before .before .before .before .before .before .before .before .before .args in
+    let l = c .before .before .before .before .before .before .before .before .before .loop in
+    omega (arith, row-there (a .file .now) (a .start) (a .states) (a .symbols) (a .arities .now) (l .rows) (l .count) (l .at) (l .inv) (c .before .before .before .before .before .before .before .before .frame-at .result) (c .before .before .before .before .before .before .before .before .frame-at .ensures) (c .before .before .before .before .before .before .before .if1 .left) (c .before .before .before .before .before .if2 .left))
 
 -- src/reader.rt:276:5
 loop-again : tie.Need-loop-again Inv-loop μ-loop
-loop-again c = rows-next (c .before .before .before .before .before .before .before .before .before .before .before .before .args .file .now) (c .before .before .before .before .before .before .before .before .before .before .before .before .args .start) (c .before .before .before .before .before .before .before .before .before .before .before .before .args .states) (c .before .before .before .before .before .before .before .before .before .before .before .before .args .symbols) (c .before .before .before .before .before .before .before .before .before .before .before .before .args .arities .now) (c .before .before .before .before .before .before .before .before .before .loop .rows) (c .before .before .before .before .before .before .before .before .before .loop .count) (c .before .before .before .before .before .before .before .before .before .loop .at) (c .before .before .before .before .before .before .before .before .before .loop .inv) (c .before .before .before .before .before .before .before .before .frame-at .result) (c .before .before .before .before .before .before .before .before .frame-at .ensures) (c .before .before .before .before .before .before .before .if1 .left) (c .before .before .before .before .before .if2 .left) (c .before .before .before .before .if4 .left) (c .before .before .row-at .result) (c .before .before .row-at .ensures) (c .before .if5 .left)
+loop-again c =
+    let a = c .before .before .before .before .before .before .before .before .before .before .before .before .args in
+    let l = c .before .before .before .before .before .before .before .before .before .loop in
+    rows-next (a .file .now) (a .start) (a .states) (a .symbols) (a .arities .now) (l .rows) (l .count) (l .at) (l .inv) (c .before .before .before .before .before .before .before .before .frame-at .result) (c .before .before .before .before .before .before .before .before .frame-at .ensures) (c .before .before .before .before .before .before .before .if1 .left) (c .before .before .before .before .before .if2 .left) (c .before .before .before .before .if4 .left) (c .before .before .row-at .result) (c .before .before .row-at .ensures) (c .before .if5 .left)
 
 pub rows-of-spec : {M : Type 1} → statement M
 rows-of-spec =

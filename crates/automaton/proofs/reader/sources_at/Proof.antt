@@ -26,7 +26,10 @@ shared-slice-read-state c = omega arith
 
 -- src/reader.rt:205:13
 returns : tie.Need-returns Inv-loop μ-loop
-returns c = sources-bad (c .before .before .before .before .args .file .now) (c .before .before .before .before .args .at) (c .before .before .before .before .args .arity) (c .before .before .before .before .args .states) (c .before .before .before .before .pre .0) (c .before .before .before .before .pre .1) (c .before .before .before .loop .places) (c .before .before .before .loop .i) (c .before .before .before .loop .inv) (c .before .before .loop-test .taken) (c .if1 .taken)
+returns c =
+    let a = c .before .before .before .before .args in
+    let l = c .before .before .before .loop in
+    sources-bad (a .file .now) (a .at) (a .arity) (a .states) (c .before .before .before .before .pre .0) (c .before .before .before .before .pre .1) (l .places) (l .i) (l .inv) (c .before .before .loop-test .taken) (c .if1 .taken)
 
 -- src/reader.rt:207:9
 array-write-places : tie.Need-array-write-places Inv-loop μ-loop
@@ -42,11 +45,16 @@ loop-less c = omega arith
 
 -- src/reader.rt:202:5
 loop-again : tie.Need-loop-again Inv-loop μ-loop
-loop-again c = sources-next (c .before .before .before .before .args .file .now) (c .before .before .before .before .args .at) (c .before .before .before .before .args .arity) (c .before .before .before .before .args .states) (c .before .before .before .before .pre .0) (c .before .before .before .before .pre .1) (c .before .before .before .loop .places) (c .before .before .before .loop .i) (c .before .before .before .loop .inv) (c .before .before .loop-test .taken) (c .if1 .left)
+loop-again c =
+    let a = c .before .before .before .before .args in
+    let l = c .before .before .before .loop in
+    sources-next (a .file .now) (a .at) (a .arity) (a .states) (c .before .before .before .before .pre .0) (c .before .before .before .before .pre .1) (l .places) (l .i) (l .inv) (c .before .before .loop-test .taken) (c .if1 .left)
 
 -- src/reader.rt:196:1
 returns-2 : tie.Need-returns-2 Inv-loop μ-loop
-returns-2 c = sources-done (c .before .before .args .file .now) (c .before .before .args .at) (c .before .before .args .arity) (c .before .before .args .states) (c .before .before .pre .0) (c .before .before .pre .1) (c .before .loop .places) (c .before .loop .i) (c .before .loop .inv) (c .loop-test .left)
+returns-2 c =
+    let a = c .before .before .args in
+    sources-done (a .file .now) (a .at) (a .arity) (a .states) (c .before .before .pre .0) (c .before .before .pre .1) (c .before .loop .places) (c .before .loop .i) (c .before .loop .inv) (c .loop-test .left)
 
 pub sources-at-spec : {M : Type 1} → statement M
 sources-at-spec =

@@ -30,11 +30,15 @@ frame-at-requires c κs = c .loop .inv .within
 
 -- src/reader.rt:178:13
 returns : tie.Need-returns Inv-loop μ-loop
-returns c = symbols-fault (c .before .before .before .before .before .args .file .now) (c .before .before .loop .arities) (c .before .before .loop .count) (c .before .before .loop .at) (c .before .before .loop .inv) (c .before .frame-at .result) (c .before .frame-at .ensures) (c .if1 .taken)
+returns c =
+    let l = c .before .before .loop in
+    symbols-fault (c .before .before .before .before .before .args .file .now) (l .arities) (l .count) (l .at) (l .inv) (c .before .frame-at .result) (c .before .frame-at .ensures) (c .if1 .taken)
 
 -- src/reader.rt:181:13
 returns-2 : tie.Need-returns-2 Inv-loop μ-loop
-returns-2 c = symbols-done (c .before .before .before .before .before .before .before .args .file .now) (c .before .before .before .before .loop .arities) (c .before .before .before .before .loop .count) (c .before .before .before .before .loop .at) (c .before .before .before .before .loop .inv) (c .before .before .before .frame-at .result) (c .before .before .before .frame-at .ensures) (c .before .before .if1 .left) (c .if2 .taken)
+returns-2 c =
+    let l = c .before .before .before .before .loop in
+    symbols-done (c .before .before .before .before .before .before .before .args .file .now) (l .arities) (l .count) (l .at) (l .inv) (c .before .before .before .frame-at .result) (c .before .before .before .frame-at .ensures) (c .before .before .if1 .left) (c .if2 .taken)
 
 -- src/reader.rt:183:26
 add-arity : tie.Need-add-arity Inv-loop μ-loop
@@ -42,15 +46,21 @@ add-arity c = search needs
 
 -- src/reader.rt:183:21
 shared-slice-read-arity : tie.Need-shared-slice-read-arity Inv-loop μ-loop
-shared-slice-read-arity c = omega (arith, symbols-there (c .before .before .before .before .before .before .before .before .args .file .now) (c .before .before .before .before .before .loop .arities) (c .before .before .before .before .before .loop .count) (c .before .before .before .before .before .loop .at) (c .before .before .before .before .before .loop .inv) (c .before .before .before .before .frame-at .result) (c .before .before .before .before .frame-at .ensures) (c .before .before .before .if1 .left) (c .before .if2 .left))
+shared-slice-read-arity c =
+    let l = c .before .before .before .before .before .loop in
+    omega (arith, symbols-there (c .before .before .before .before .before .before .before .before .args .file .now) (l .arities) (l .count) (l .at) (l .inv) (c .before .before .before .before .frame-at .result) (c .before .before .before .before .frame-at .ensures) (c .before .before .before .if1 .left) (c .before .if2 .left))
 
 -- src/reader.rt:185:13
 returns-3 : tie.Need-returns-3 Inv-loop μ-loop
-returns-3 c = symbols-many (c .before .before .before .before .before .before .before .before .before .args .file .now) (c .before .before .before .before .before .before .loop .arities) (c .before .before .before .before .before .before .loop .count) (c .before .before .before .before .before .before .loop .at) (c .before .before .before .before .before .before .loop .inv) (c .before .before .before .before .before .frame-at .result) (c .before .before .before .before .before .frame-at .ensures) (c .before .before .before .before .if1 .left) (c .before .before .if2 .left) (c .if3 .taken)
+returns-3 c =
+    let l = c .before .before .before .before .before .before .loop in
+    symbols-many (c .before .before .before .before .before .before .before .before .before .args .file .now) (l .arities) (l .count) (l .at) (l .inv) (c .before .before .before .before .before .frame-at .result) (c .before .before .before .before .before .frame-at .ensures) (c .before .before .before .before .if1 .left) (c .before .before .if2 .left) (c .if3 .taken)
 
 -- src/reader.rt:188:13
 returns-4 : tie.Need-returns-4 Inv-loop μ-loop
-returns-4 c = symbols-wide (c .before .before .before .before .before .before .before .before .before .before .args .file .now) (c .before .before .before .before .before .before .before .loop .arities) (c .before .before .before .before .before .before .before .loop .count) (c .before .before .before .before .before .before .before .loop .at) (c .before .before .before .before .before .before .before .loop .inv) (c .before .before .before .before .before .before .frame-at .result) (c .before .before .before .before .before .before .frame-at .ensures) (c .before .before .before .before .before .if1 .left) (c .before .before .before .if2 .left) (c .before .if3 .left) (c .if4 .taken)
+returns-4 c =
+    let l = c .before .before .before .before .before .before .before .loop in
+    symbols-wide (c .before .before .before .before .before .before .before .before .before .before .args .file .now) (l .arities) (l .count) (l .at) (l .inv) (c .before .before .before .before .before .before .frame-at .result) (c .before .before .before .before .before .before .frame-at .ensures) (c .before .before .before .before .before .if1 .left) (c .before .before .before .if2 .left) (c .before .if3 .left) (c .if4 .taken)
 
 -- src/reader.rt:190:17
 cast-arities : tie.Need-cast-arities Inv-loop μ-loop
@@ -70,11 +80,15 @@ add-at c = search needs
 
 -- src/reader.rt:174:5
 loop-less : tie.Need-loop-less Inv-loop μ-loop
-loop-less c = omega (arith, symbols-there (c .before .before .before .before .before .before .before .before .before .before .args .file .now) (c .before .before .before .before .before .before .before .loop .arities) (c .before .before .before .before .before .before .before .loop .count) (c .before .before .before .before .before .before .before .loop .at) (c .before .before .before .before .before .before .before .loop .inv) (c .before .before .before .before .before .before .frame-at .result) (c .before .before .before .before .before .before .frame-at .ensures) (c .before .before .before .before .before .if1 .left) (c .before .before .before .if2 .left))
+loop-less c =
+    let l = c .before .before .before .before .before .before .before .loop in
+    omega (arith, symbols-there (c .before .before .before .before .before .before .before .before .before .before .args .file .now) (l .arities) (l .count) (l .at) (l .inv) (c .before .before .before .before .before .before .frame-at .result) (c .before .before .before .before .before .before .frame-at .ensures) (c .before .before .before .before .before .if1 .left) (c .before .before .before .if2 .left))
 
 -- src/reader.rt:174:5
 loop-again : tie.Need-loop-again Inv-loop μ-loop
-loop-again c = symbols-next (c .before .before .before .before .before .before .before .before .before .before .args .file .now) (c .before .before .before .before .before .before .before .loop .arities) (c .before .before .before .before .before .before .before .loop .count) (c .before .before .before .before .before .before .before .loop .at) (c .before .before .before .before .before .before .before .loop .inv) (c .before .before .before .before .before .before .frame-at .result) (c .before .before .before .before .before .before .frame-at .ensures) (c .before .before .before .before .before .if1 .left) (c .before .before .before .if2 .left) (c .before .if3 .left) (c .if4 .left)
+loop-again c =
+    let l = c .before .before .before .before .before .before .before .loop in
+    symbols-next (c .before .before .before .before .before .before .before .before .before .before .args .file .now) (l .arities) (l .count) (l .at) (l .inv) (c .before .before .before .before .before .before .frame-at .result) (c .before .before .before .before .before .before .frame-at .ensures) (c .before .before .before .before .before .if1 .left) (c .before .before .before .if2 .left) (c .before .if3 .left) (c .if4 .left)
 
 pub symbols-of-spec : {M : Type 1} → statement M
 symbols-of-spec =

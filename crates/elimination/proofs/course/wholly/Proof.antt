@@ -1,46 +1,57 @@
-use Prim.Native.Nat.{ℕ}
-use native.Mathlib.Omega.{arith}
-use mathlib.Core.Path.{_∙_, subst}
+use Rattle.elimination.proofs.Starting.{states-same}
+use Rattle.elimination.proofs.Conversion.{join-full, join-then, last-some, last-stands}
 use Rattle.automaton.specs.Answers.{heldBy}
-use Rattle.elimination.specs.Stages.{stageAfter}
-use Rattle.elimination.specs.Inside.{Moves}
-use Rattle.elimination.proofs.StartLoops.{states-same}
-use Rattle.elimination.proofs.Conversion.{stop-stands, stop-some, join-over, join-gives}
+use mathlib.Core.Path.{_∙_}
 use borrow.Author.Needs.{needs}
 use Rattle.elimination.proofs.course.wholly.Statement.{statement}
 use Rattle.elimination.proofs.course.wholly.Tie as tie
+use Rattle.elimination.proofs.course.wholly.Reads as reads
+use Rattle.elimination.proofs.course.wholly.Lts as lts
+use Rattle.elimination.proofs.course.partly.Reads as partly-reads
+use Rattle.elimination.proofs.step.join_rows.Reads as join-rows-reads
+use Rattle.ground.proofs.wide.Reads as wide-reads
 
-wide-target-requires : tie.Need-wide-target-requires
-wide-target-requires c κs = tt
+-- src/course.rt:56:37
+wide-requires : tie.Need-wide-requires
+wide-requires c κs = search needs
 
+-- src/course.rt:56:9
 partly-requires : tie.Need-partly-requires
-partly-requires c κs = let s = c .wide-target .ensures in (c .before .before .before .pre, omega arith)
+partly-requires c κs = search needs
 
+-- src/course.rt:58:9
 same-length : tie.Need-same-length
 same-length c = search needs
 
+-- src/course.rt:58:9
 returns : tie.Need-returns
-returns c = let a = c .before .before .before .before .before .before .before .args in join-over (heldBy (a .value)) (c .before .before .before .before .before .before .before .pre .valid) (a .words .now) (c .before .before .before .partly .last .0) (c .before .before .before .partly .result) (subst (λ (n : ℕ). Moves (a .words .now) (stageAfter n (heldBy (a .value))) (c .before .before .before .partly .last .0) (c .before .before .before .partly .result)) (c .before .before .before .before .wide-target .ensures ∙ states-same (a .value) (c .before .before .before .before .before .before .before .pre)) (c .before .before .before .partly .ensures)) (c .if1 .taken)
+returns c = let a = c .before .before .before .before .before .before .before .args in let v = a .value in let h = c .before .before .before .before .before .before .before .pre in join-full (heldBy v) (h .valid) (a .words .now) (c .before .before .before .before .wide .result) (c .before .before .before .before .wide .ensures ∙ states-same v h) (c .before .before .before .partly .last .0) (c .before .before .before .partly .result) (c .before .before .before .partly .ensures) (c .if1 .taken)
 
-join-all-requires : tie.Need-join-all-requires
-join-all-requires c κs = let a = c .before .before .before .before .before .before .before .before .before .args in
-    let s = stop-stands (heldBy (a .value)) (c .before .before .before .before .before .before .before .before .before .pre .valid) (a .words .now) (heldBy (a .value) .states) (omega arith) (c .before .before .before .before .before .partly .last .0) (c .before .before .before .before .before .partly .result) (subst (λ (n : ℕ). Moves (a .words .now) (stageAfter n (heldBy (a .value))) (c .before .before .before .before .before .partly .last .0) (c .before .before .before .before .before .partly .result)) (c .before .before .before .before .before .before .wide-target .ensures ∙ states-same (a .value) (c .before .before .before .before .before .before .before .before .before .pre)) (c .before .before .before .before .before .partly .ensures)) (c .before .before .if1 .left) in
-    (s .ready, (s .listed, stop-some (heldBy (a .value)) (c .before .before .before .before .before .before .before .before .before .pre .valid) (a .words .now) (c .before .before .before .before .before .partly .last .0) (c .before .before .before .before .before .partly .result) (subst (λ (n : ℕ). Moves (a .words .now) (stageAfter n (heldBy (a .value))) (c .before .before .before .before .before .partly .last .0) (c .before .before .before .before .before .partly .result)) (c .before .before .before .before .before .before .wide-target .ensures ∙ states-same (a .value) (c .before .before .before .before .before .before .before .before .before .pre)) (c .before .before .before .before .before .partly .ensures)) (c .before .before .if1 .left)))
+-- src/course.rt:69:9
+wide-requires-2 : tie.Need-wide-requires-2
+wide-requires-2 c κs = search needs
 
+-- src/course.rt:65:5
+join-rows-requires : tie.Need-join-rows-requires
+join-rows-requires c κs = let a = c .before .before .before .before .before .before .before .before .before .before .args in let v = a .value in let h = c .before .before .before .before .before .before .before .before .before .before .pre in let s = last-stands (heldBy v) (h .valid) (a .words .now) (c .before .before .before .before .before .before .before .wide .result) (c .before .before .before .before .before .before .before .wide .ensures ∙ states-same v h) (c .before .before .before .before .before .before .partly .last .0) (c .before .before .before .before .before .before .partly .result) (c .before .before .before .before .before .before .partly .ensures) (c .before .before .before .if1 .left) in (s .ready, (s .listed, last-some (heldBy v) (h .valid) (a .words .now) (c .before .before .before .before .before .before .before .wide .result) (c .before .before .before .before .before .before .before .wide .ensures ∙ states-same v h) (c .before .before .before .before .before .before .partly .last .0) (c .before .before .before .before .before .before .partly .result) (c .before .before .before .before .before .before .partly .ensures) (c .before .before .before .if1 .left)))
+
+-- src/course.rt:52:1
 same-length-2 : tie.Need-same-length-2
-same-length-2 c = c .before .before .join-all .kept .0 ∙ c .before .before .before .before .before .before .before .before .partly .kept .0
+same-length-2 c = search needs
 
+-- src/course.rt:52:1
 returns-2 : tie.Need-returns-2
-returns-2 c = let a = c .before .before .before .before .before .before .before .before .before .before .before .before .args in join-gives (heldBy (a .value)) (c .before .before .before .before .before .before .before .before .before .before .before .before .pre .valid) (a .words .now) (c .before .before .before .before .before .before .before .before .partly .last .0) (c .before .before .before .before .before .before .before .before .partly .result) (subst (λ (n : ℕ). Moves (a .words .now) (stageAfter n (heldBy (a .value))) (c .before .before .before .before .before .before .before .before .partly .last .0) (c .before .before .before .before .before .before .before .before .partly .result)) (c .before .before .before .before .before .before .before .before .before .wide-target .ensures ∙ states-same (a .value) (c .before .before .before .before .before .before .before .before .before .before .before .before .pre)) (c .before .before .before .before .before .before .before .before .partly .ensures)) (c .before .before .before .before .before .if1 .left) (c .before .before .join-all .last .0) (c .before .before .join-all .result) (c .before .before .join-all .ensures)
+returns-2 c = let a = c .before .before .before .before .before .before .before .before .before .before .before .before .before .args in let v = a .value in let h = c .before .before .before .before .before .before .before .before .before .before .before .before .before .pre in join-then (heldBy v) (h .valid) (a .words .now) (c .before .before .before .before .before .before .before .before .before .before .wide .result) (c .before .before .before .before .before .before .before .before .before .before .wide .ensures ∙ states-same v h) (c .before .before .before .before .before .before .before .before .before .partly .last .0) (c .before .before .before .before .before .before .before .before .before .partly .result) (c .before .before .before .before .before .before .before .before .before .partly .ensures) (c .before .before .before .before .before .before .if1 .left) (c .before .before .before .wide2 .result) (c .before .before .before .wide2 .ensures) (c .before .before .join-rows .last .0) (c .before .before .join-rows .result) (c .before .before .join-rows .ensures)
 
 pub wholly-spec : {M : Type 1} → statement M
 wholly-spec =
     tie.close
     (tie.spec
-    wide-target-requires
+    wide-requires
     partly-requires
     same-length
     returns
-    join-all-requires
+    wide-requires-2
+    join-rows-requires
     same-length-2
     returns-2)

@@ -1,21 +1,25 @@
-use Rattle.expressions.specs.Words.{readNode}
-use mathlib.Core.Path.{sym, _∙_}
-use Rattle.elimination.proofs.Holding.{hole-test, hole-kind}
+use Rattle.expressions.specs.declared.Node.{Node}
+use Rattle.expressions.specs.Words.{nodeIn}
+use Rattle.elimination.proofs.Makers.{hole-kind, hole-test}
+use mathlib.Core.Path.{_∙_, ap, sym}
 use borrow.Author.Needs.{needs}
 use Rattle.elimination.proofs.maker.is_hole.Statement.{statement}
 use Rattle.elimination.proofs.maker.is_hole.Tie as tie
+use Rattle.elimination.proofs.maker.is_hole.Reads as reads
+use Rattle.elimination.proofs.maker.is_hole.Lts as lts
+use Rattle.expressions.proofs.node_at.Reads as node-at-reads
 
-kind-at-requires : tie.Need-kind-at-requires
-kind-at-requires c κs = search needs
+-- src/maker.rt:46:17
+node-at-requires : tie.Need-node-at-requires
+node-at-requires c κs = search needs
 
-label-at-requires : tie.Need-label-at-requires
-label-at-requires c κs = search needs
-
+-- src/maker.rt:48:9
 returns : tie.Need-returns
-returns c = hole-test _ _ _ _ (sym (c .before .before .kind-at .ensures) ∙ c .before .if1 .taken) (c .label-at .ensures)
+returns c = let e = c .before .before .before .before .node-at .ensures in hole-test _ _ _ _ (sym (ap (λ (n : Node). n .shape .kind) e) ∙ c .before .if1 .taken) (ap (λ (n : Node). n .shape .label) e)
 
+-- src/maker.rt:43:1
 returns-2 : tie.Need-returns-2
-returns-2 c = let a = c .before .before .before .args in hole-kind (readNode (a .words .now) (a .node) .shape .kind) (readNode (a .words .now) (a .node) .shape .label) (a .q) (λ e. c .if1 .left (c .before .kind-at .ensures ∙ e))
+returns-2 c = let a = c .before .before .before .before .before .args in let e = ap (λ (n : Node). n .shape .kind) (c .before .before .before .node-at .ensures) in hole-kind (nodeIn (a .words .now) (a .node) .shape .kind) (nodeIn (a .words .now) (a .node) .shape .label) (a .q) (λ f. c .if1 .left (e ∙ f))
 
 pub is-hole-spec : {M : Type 1} → statement M
-is-hole-spec = tie.close (tie.spec kind-at-requires label-at-requires returns returns-2)
+is-hole-spec = tie.close (tie.spec node-at-requires returns returns-2)

@@ -1,7 +1,7 @@
 -- `nodes::label_fits` meets its contract: each arm by computing.
 use native.Mathlib.Omega.{arith}
-use Rattle.automaton.proofs.Deciding.{decides-eq, decides-lt, decides-no}
-use Rattle.expressions.proofs.Checks.{no-kind}
+use Rattle.ground.proofs.Deciding.{decides-eq, decides-lt, decides-no}
+use Rattle.expressions.proofs.KindLaws.{no-kind}
 use Rattle.expressions.proofs.nodes.label_fits.Statement.{statement}
 use Rattle.expressions.proofs.nodes.label_fits.Tie as tie
 

@@ -1,6 +1,6 @@
 -- `nodes::place_fits` meets its contract.
 use native.Mathlib.Omega.{arith}
-use Rattle.automaton.proofs.Deciding.{decides-as, decides-lt, decides-eq}
+use Rattle.ground.proofs.Deciding.{decides-as, decides-lt, decides-eq}
 use Rattle.expressions.proofs.nodes.place_fits.Statement.{statement}
 use Rattle.expressions.proofs.nodes.place_fits.Tie as tie
 

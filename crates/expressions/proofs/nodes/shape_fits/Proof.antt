@@ -1,47 +1,56 @@
 -- `nodes::shape_fits` meets its contract: the label and the three places decide.
 use borrow.Author.Tests.{not-true, not-false}
-use Rattle.automaton.proofs.Deciding.{decides-as, decides-no, refuted}
-use Rattle.expressions.proofs.Checks.{fits-of, first-ok, second-ok, third-ok}
+use Rattle.ground.proofs.Deciding.{decides-as, decides-no, refuted}
+use Rattle.expressions.proofs.Places.{fits-of, first-ok, second-ok, third-ok}
+use borrow.Author.Needs.{needs}
 use Rattle.expressions.proofs.nodes.shape_fits.Statement.{statement}
 use Rattle.expressions.proofs.nodes.shape_fits.Tie as tie
 
 label-fits-requires : tie.Need-label-fits-requires
-label-fits-requires c κs = tt
+label-fits-requires c κs = search needs
 
+-- src/nodes.rt:58:9
 returns : tie.Need-returns
 returns c = decides-no (λ f. refuted (c .before .label-fits .ensures) (not-true _ (c .if1 .taken)) (f .labelled))
 
+-- src/nodes.rt:60:9
 child-count-requires : tie.Need-child-count-requires
-child-count-requires c κs = tt
+child-count-requires c κs = search needs
 
+-- src/nodes.rt:61:9
 place-fits-requires : tie.Need-place-fits-requires
-place-fits-requires c κs = tt
+place-fits-requires c κs = search needs
 
+-- src/nodes.rt:62:9
 returns-2 : tie.Need-returns-2
 returns-2 c =
     let a = c .before .before .before .before .before .args in
-    decides-no (λ f. refuted (c .before .place-fits .ensures) (not-true _ (c .if2 .taken)) (first-ok (a .number) (a .kind) (a .label) (a .first) (a .second) (a .third) (c .before .before .child-count .ensures) f))
+    decides-no (λ f. refuted (c .before .place-fits .ensures) (not-true _ (c .if2 .taken)) (first-ok (a .number) (a .shape) (c .before .before .child-count .ensures) f))
 
+-- src/nodes.rt:64:9
 place-fits-requires-2 : tie.Need-place-fits-requires-2
-place-fits-requires-2 c κs = tt
+place-fits-requires-2 c κs = search needs
 
+-- src/nodes.rt:65:9
 returns-3 : tie.Need-returns-3
 returns-3 c =
     let a = c .before .before .before .before .before .before .before .args in
-    decides-no (λ f. refuted (c .before .place-fits2 .ensures) (not-true _ (c .if3 .taken)) (second-ok (a .number) (a .kind) (a .label) (a .first) (a .second) (a .third) (c .before .before .before .before .child-count .ensures) f))
+    decides-no (λ f. refuted (c .before .place-fits2 .ensures) (not-true _ (c .if3 .taken)) (second-ok (a .number) (a .shape) (c .before .before .before .before .child-count .ensures) f))
 
+-- src/nodes.rt:67:5
 place-fits-requires-3 : tie.Need-place-fits-requires-3
-place-fits-requires-3 c κs = tt
+place-fits-requires-3 c κs = search needs
 
+-- src/nodes.rt:54:1
 returns-4 : tie.Need-returns-4
 returns-4 c =
     let a = c .before .before .before .before .before .before .before .before .args in
     let n = c .before .before .before .before .before .child-count .ensures in
     decides-as (c .place-fits3 .ensures)
-    (fits-of (a .number) (a .kind) (a .label) (a .first) (a .second) (a .third) n (c .before .before .before .before .before .before .before .label-fits .ensures .only (not-false _ (c .before .before .before .before .before .before .if1 .left)))
+    (fits-of (a .number) (a .shape) n (c .before .before .before .before .before .before .before .label-fits .ensures .only (not-false _ (c .before .before .before .before .before .before .if1 .left)))
     (c .before .before .before .before .place-fits .ensures .only (not-false _ (c .before .before .before .if2 .left)))
     (c .before .before .place-fits2 .ensures .only (not-false _ (c .before .if3 .left))))
-    (third-ok (a .number) (a .kind) (a .label) (a .first) (a .second) (a .third) n)
+    (third-ok (a .number) (a .shape) n)
 
 pub shape-fits-spec : {M : Type 1} → statement M
 shape-fits-spec =

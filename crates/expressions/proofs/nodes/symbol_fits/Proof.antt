@@ -1,6 +1,6 @@
 -- `nodes::symbol_fits` meets its contract.
 use native.Mathlib.Omega.{arith}
-use Rattle.automaton.proofs.Deciding.{decides-as, decides-lt, decides-no}
+use Rattle.ground.proofs.Deciding.{decides-as, decides-lt, decides-no}
 use Rattle.expressions.proofs.nodes.symbol_fits.Statement.{statement}
 use Rattle.expressions.proofs.nodes.symbol_fits.Tie as tie
 

@@ -3,39 +3,51 @@ use mathlib.Core.Path.{_∙_}
 use Prim.Native.Nat.{suc, _*_, _≤_}
 use lib.ListN.{length}
 use Rattle.expressions.specs.Words.{nodeWidth, readNode}
-use Rattle.expressions.proofs.Checks.{used-first, used-second, used-third, union-three}
+use Rattle.expressions.proofs.Places.{child-first, child-second, child-third, union-three}
+use borrow.Author.Needs.{needs}
 use Rattle.expressions.proofs.nodes.union_opens.Statement.{statement}
 use Rattle.expressions.proofs.nodes.union_opens.Tie as tie
 
+child-count-requires : tie.Need-child-count-requires
+child-count-requires c κs = search needs
+
+-- src/nodes.rt:96:49
 empty-requires : tie.Need-empty-requires
-empty-requires c κs = tt
+empty-requires c κs = search needs
 
+-- src/nodes.rt:96:9
 joined-requires : tie.Need-joined-requires
-joined-requires c κs = let a = c .before .before .args in used-third (λ i. nodeWidth * suc i ≤ length (a .words .now)) (a .n) (a .first) (a .second) (a .third) (c .before .before .pre)
+joined-requires c κs = let s = c .before .before .before in child-third (λ i. nodeWidth * suc i ≤ length (s .args .words .now)) (s .args .shape) (c .before .child-count .ensures) (s .pre)
 
+-- src/nodes.rt:97:9
 joined-requires-2 : tie.Need-joined-requires-2
-joined-requires-2 c κs = let a = c .before .before .before .args in used-second (λ i. nodeWidth * suc i ≤ length (a .words .now)) (a .n) (a .first) (a .second) (a .third) (c .before .before .before .pre)
+joined-requires-2 c κs = let s = c .before .before .before .before in child-second (λ i. nodeWidth * suc i ≤ length (s .args .words .now)) (s .args .shape) (c .before .before .child-count .ensures) (s .pre)
 
+-- src/nodes.rt:98:20
 joined-requires-3 : tie.Need-joined-requires-3
-joined-requires-3 c κs = let a = c .before .before .before .before .args in used-first (λ i. nodeWidth * suc i ≤ length (a .words .now)) (a .n) (a .first) (a .second) (a .third) (c .before .before .before .before .pre)
+joined-requires-3 c κs = let s = c .before .before .before .before .before in child-first (λ i. nodeWidth * suc i ≤ length (s .args .words .now)) (s .args .shape) (c .before .before .before .child-count .ensures) (s .pre)
 
-word-of-requires : tie.Need-word-of-requires
-word-of-requires c κs = tt
+-- src/nodes.rt:98:5
+wide16-requires : tie.Need-wide16-requires
+wide16-requires c κs = search needs
 
+-- src/nodes.rt:91:1
 returns : tie.Need-returns
 returns c =
-    let a = c .before .before .before .before .before .before .args in
-    c .word-of .ensures ∙ c .before .joined3 .ensures
+    let d = c .before .before .before .before .before in
+    let a = d .before .before .args in
+    c .wide16 .ensures ∙ c .before .joined3 .ensures
     ∙ rw (c .before .before .joined2 .ensures, c .before .before .before .joined .ensures, c .before .before .before .before .empty .ensures)
-    (union-three (λ i. readNode (a .words .now) i .opens) (a .n) (a .first) (a .second) (a .third))
+    (union-three (λ i. readNode (a .words .now) i .opens) (a .shape) (d .child-count .ensures))
 
 pub union-opens-spec : {M : Type 1} → statement M
 union-opens-spec =
     tie.close
     (tie.spec
+    child-count-requires
     empty-requires
     joined-requires
     joined-requires-2
     joined-requires-3
-    word-of-requires
+    wide16-requires
     returns)

@@ -1,12 +1,10 @@
+use Rattle.sets.specs.Members.{stateWidth}
 use Rattle.sets.proofs.Bits.{ones-size}
 use Rattle.sets.proofs.StateSet.count.Statement.{statement}
 use Rattle.sets.proofs.StateSet.count.Tie as tie
-use Rattle.sets.proofs.StateSet.count.Reads as reads
-use Rattle.sets.proofs.StateSet.count.Lts as lts
 
--- src/lib.rt:59:5
 returns : tie.Need-returns
-returns c = ones-size 16 (c .before .args .self .0) (c .struct-known .given .0 .fits)
+returns c = ones-size stateWidth (c .before .args .self .0) (c .struct-known .given .0 .fits)
 
 pub count-spec : {M : Type 1} → statement M
 count-spec = tie.close (tie.spec returns)

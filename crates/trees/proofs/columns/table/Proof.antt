@@ -5,7 +5,8 @@ use mathlib.Core.List.{List}
 use lib.ListN.{length, take}
 use Rattle.sets.proofs.Bits.{shifted}
 use Rattle.automaton.specs.Held.{Rule}
-use Rattle.automaton.specs.Answers.{heldBy, filled}
+use Rattle.automaton.specs.Answers.{heldBy}
+use Rattle.ground.specs.Lists.{filled}
 use Rattle.trees.specs.Columns.{Tabled, column, need}
 use Rattle.trees.proofs.Values.{rowAt, ruleAt, so-many-rows, all-rows, row-inside, symbol-at, target-at, symbol-small, aimed-at, source-small, need-at}
 use Rattle.trees.proofs.Tabling.{column-next}

@@ -1,0 +1,7 @@
+pub mod Truth
+pub mod Tests
+pub mod Lists
+pub mod Deciding
+pub mod Places
+pub mod Decimal
+pub mod Bytes

@@ -1,0 +1,116 @@
+// Doors in C's calling convention to the functions on sets and to the helpers, as `doors` has them to the others; the three of `ground` that only
+// widen a number have none.
+use expressions::Node;
+use expressions::Shape;
+use sets::StateSet;
+ghost use mathlib.Core.Path.{_≡_};
+ghost use Rattle.sets.specs.Promises.{IsEmpty, IsOne, IsOfWord, IsUnion, SaysMember, SaysPast, IsWithout, IsCount};
+ghost use Rattle.ground.specs.Decimal.{decimal};
+ghost use Rattle.ground.specs.Writing.{Puts};
+ghost use Rattle.ground.specs.Promises.{CountsDigits, Clears};
+ghost use Rattle.expressions.specs.Nodes.{childCount};
+ghost use Rattle.expressions.specs.Words.{nodeIn};
+
+// ---- sets
+
+#[no_mangle]
+pub extern "C" fn door_set_empty() -> StateSet
+    ensures { λ r. ⌜ IsEmpty r ⌝ }
+{
+    StateSet::empty()
+}
+
+#[no_mangle]
+pub extern "C" fn door_set_one(state: u32) -> StateSet
+    ensures { λ r. ⌜ IsOne state r ⌝ }
+{
+    StateSet::one(state)
+}
+
+#[no_mangle]
+pub extern "C" fn door_set_of_word(word: u32) -> StateSet
+    ensures { λ r. ⌜ IsOfWord word r ⌝ }
+{
+    StateSet::of_word(word)
+}
+
+#[no_mangle]
+pub extern "C" fn door_set_union(set: StateSet, other: StateSet) -> StateSet
+    ensures { λ r. ⌜ IsUnion set other r ⌝ }
+{
+    set.union(other)
+}
+
+#[no_mangle]
+pub extern "C" fn door_set_has(set: StateSet, state: u32) -> bool
+    ensures { λ r. ⌜ SaysMember set state r ⌝ }
+{
+    set.has(state)
+}
+
+#[no_mangle]
+pub extern "C" fn door_set_past(set: StateSet, count: u8) -> bool
+    ensures { λ r. ⌜ SaysPast set count r ⌝ }
+{
+    set.past(count)
+}
+
+#[no_mangle]
+pub extern "C" fn door_set_without(set: StateSet, state: u32) -> StateSet
+    ensures { λ r. ⌜ IsWithout set state r ⌝ }
+{
+    set.without(state)
+}
+
+#[no_mangle]
+pub extern "C" fn door_set_count(set: StateSet) -> u32
+    ensures { λ r. ⌜ IsCount set r ⌝ }
+{
+    set.count()
+}
+
+// ---- the ground
+
+#[no_mangle]
+pub extern "C" fn door_zero(words: &mut [u32])
+    ensures { λ _. ⌜ Clears (now (words .entry)) (now (words .exit)) ⌝ }
+{
+    ground::zero(words);
+}
+
+#[no_mangle]
+pub extern "C" fn door_digits(n: u64) -> usize
+    ensures { λ r. ⌜ CountsDigits n r ⌝ }
+{
+    ground::digits(n)
+}
+
+#[no_mangle]
+pub extern "C" fn door_put_bytes(out: &mut [u8], at: usize, bytes: &[u8]) -> usize
+    ensures { λ r. ⌜ Puts (now (out .entry)) at (now (bytes .entry)) (now (out .exit)) r ⌝ }
+{
+    ground::put_bytes(out, at, bytes)
+}
+
+#[no_mangle]
+pub extern "C" fn door_put_number(out: &mut [u8], at: usize, n: u64) -> usize
+    ensures { λ r. ⌜ Puts (now (out .entry)) at (decimal n) (now (out .exit)) r ⌝ }
+{
+    ground::put_number(out, at, n)
+}
+
+// ---- nodes
+
+#[no_mangle]
+pub extern "C" fn door_child_count(shape: Shape) -> u32
+    ensures { λ r. ⌜ r ≡ childCount (shape .kind) (shape .label) ⌝ }
+{
+    shape.child_count()
+}
+
+#[no_mangle]
+pub extern "C" fn door_node_at(words: &[u32], i: usize) -> Node
+    ensures { λ r. ⌜ r ≡ nodeIn (now (words .entry)) i ⌝ }
+{
+    expressions::node_at(words, i)
+}

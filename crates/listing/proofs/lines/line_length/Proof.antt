@@ -1,0 +1,48 @@
+-- `lines::line_length` meets its contract: the parts of a line summed.
+use native.Mathlib.Omega.{arith}
+use Rattle.ground.proofs.Decimal.{digits-twenty}
+use Rattle.listing.proofs.Listing.{line-size}
+use borrow.Author.Needs.{needs}
+use Rattle.listing.proofs.lines.line_length.Statement.{statement}
+use Rattle.listing.proofs.lines.line_length.Tie as tie
+
+head-length-requires : tie.Need-head-length-requires
+head-length-requires c κs = search needs
+
+-- src/lines.rt:100:9
+children-length-requires : tie.Need-children-length-requires
+children-length-requires c κs = search needs
+
+-- src/lines.rt:101:5
+digits-requires : tie.Need-digits-requires
+digits-requires c κs = search needs
+
+-- src/lines.rt:101:46
+add-result : tie.Need-add-result
+add-result c = search needs
+
+-- src/lines.rt:101:38
+add-result-2 : tie.Need-add-result-2
+add-result-2 c = search needs
+
+-- src/lines.rt:101:5
+add-result-3 : tie.Need-add-result-3
+add-result-3 c = omega (arith, c .digits .ensures, digits-twenty (c .before .before .before .args .number) (omega arith))
+
+-- src/lines.rt:96:1
+returns : tie.Need-returns
+returns c =
+    let a = c .before .before .before .args in
+    (omega (arith, c .digits .ensures, c .before .before .head-length .ensures .0, c .before .children-length .ensures .0, line-size (a .number) (a .shape)), omega (arith, c .digits .ensures, digits-twenty (a .number) (omega arith)))
+
+pub line-length-spec : {M : Type 1} → statement M
+line-length-spec =
+    tie.close
+    (tie.spec
+    head-length-requires
+    children-length-requires
+    digits-requires
+    add-result
+    add-result-2
+    add-result-3
+    returns)

@@ -1,0 +1,5 @@
+pub mod Fillings
+pub mod Meaning
+pub mod Arden
+pub mod Opens
+pub mod Slips

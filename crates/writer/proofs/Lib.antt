@@ -1,0 +1,5 @@
+pub mod Stores
+pub mod Fitting
+pub mod Putting
+pub mod Writes
+pub mod Laws
