@@ -23,7 +23,7 @@ pub record Claims : Type 0 where
   pub prints-faithfully : PrintsFaithfully
   -- each promise leaves one outcome [12.3]
   pub each-once : EachOnce
-  -- and has one, in numbers of the types that the code declares [12.1, 12.2]
+  -- and has one, in numbers of the types that the code declares [12.15]
   pub each-kept : EachKept
   -- no sham keeps them [12.4 to 12.8]
   pub no-sham : NoSham

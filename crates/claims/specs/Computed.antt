@@ -6,9 +6,9 @@ use mathlib.Core.Logic.{_↔_}
 use mathlib.Core.List.{List, [], _∷_}
 use lib.Dec.{ltb}
 use lib.ListN.{length, replicate}
-use Rattle.sets.specs.Members.{has, setOf, emptySet, oneSet, ofWord, union, hasPast, without, size, stateWidth}
+use Rattle.sets.specs.Members.{has, setOf, emptySet, oneSet, ofWord, union, hasPast, without, size}
 use Rattle.automaton.specs.declared.Refusal.{Refusal}
-use Rattle.automaton.specs.Held.{Held, mostRows}
+use Rattle.automaton.specs.Held.{Held}
 use Rattle.automaton.specs.Refusals.{refusal}
 use Rattle.trees.specs.declared.ProductiveStates.{ProductiveStates}
 use Rattle.meaning.specs.Trees.{Tree}
@@ -179,7 +179,7 @@ pub record StageCases : Type 0 where
   -- final states, the lowest first [8.4]
   pub finals-ascend : finalStates (record { states = 4; finals = 11; arities = []; rules = [] }) ≡ 0 ∷ 1 ∷ 3 ∷ []
   -- the bound at its largest [8.29, 8.30]
-  pub bound-of-most : nodeBound stateWidth mostRows stateWidth ≡ mostMade
+  pub bound-of-most : (nodeBound 16 64 16 ≡ 1393) × (mostMade ≡ 1393)
   -- how many whole nodes fit [0.25]
   pub whole-nodes : (wholeNodes (replicate 59 0) ≡ 9) × (wholeNodes (replicate 60 0) ≡ 10)
   -- nothing at level 0; a row that waits for a state is filled a level later [8.31, 8.32]

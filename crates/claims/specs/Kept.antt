@@ -1,4 +1,4 @@
--- Each promise can be kept [12.1, 12.2]: for every input there is an outcome that keeps it. What is returned fits the types that the code declares; a lent buffer is as long as it was [0.16], and its words or bytes still fit their type where they did before. So no promise of a public function is empty, and none asks for what cannot be. (That the functions keep them is what the prover shows of the code.)
+-- Each promise can be kept [12.15]: for every input there is an outcome that keeps it; where a place in a lent buffer is returned, the buffer is one that a machine has, shorter than 2 ^ 64. What is returned fits the types that the code declares; a lent buffer is as long as it was [0.16], and its words or bytes still fit their type where they did before. So no promise of a public function is empty, and none asks for what cannot be. (That the functions keep them is what the prover shows of the code.)
 use Prim.Native.Nat.{ℕ}
 use mathlib.Core.Path.{_≡_}
 use mathlib.Core.Bool.{Bool}

@@ -49,7 +49,7 @@ pair-filled (under (both {t = u} x (both {t = v} y none))) = (u, v, refl, x, y)
 leaf-filled : {σ : Family} {f : ℕ} {t : Tree} → Filled σ (leaf f) t → t ≡ leaf f
 leaf-filled (under none) = refl
 
--- ---- earlier levels stay [11.3]: the iteration of f(q,q), closed with a, has the tree f(f(a,a),a)
+-- ---- earlier levels stay [11.3]: the tree f(f(a,a),a) is not lost
 
 pub earlier-levels-kept : Denotes (catᴱ 0 (iterᴱ 0 (pairᴱ (holeᴱ 0) (holeᴱ 0))) (leafᴱ 0)) (pair (pair (leaf 0) (leaf 0)) (leaf 0))
 earlier-levels-kept = (

@@ -61,7 +61,7 @@ module _ (held : Held) (v : Valid held) (gone : List ℕ) (states : All (λ q. q
   rows : List ExprRow
   rows = eliminatedAll gone (startRows held)
 
-  -- "every tree is accepted by the list exactly when the automaton accepts it"
+  -- the list accepts what the automaton accepts [1.6]
   pub list-accepts : (t : Tree) → Accepts (eliminatedAll gone (startRows held)) t ↔ Accepted held t
   list-accepts t =
       let f = accepts (eliminatedAll gone (startRows held)) t in
@@ -113,7 +113,7 @@ module _ (held : Held) (v : Valid held) (gone : List ℕ) (states : All (λ q. q
             either (inl h) = absurd (k .1 (all-gone r h))
             either (inr e) = e
 
-    -- "the full conversion's answer denotes exactly the accepted trees"
+    -- the answer denotes it [1.9]
     pub answer-denotes : (t : Tree) → Denotes (answerOf (eliminatedAll gone (startRows held))) t ↔ Accepted held t
     unfolding answerOf rows
     answer-denotes t = (λ x. list-accepts t .0 (accepts rows t .1 (to-last t (of x))), λ x. to (of-last t (accepts rows t .0 (list-accepts t .1 x))))

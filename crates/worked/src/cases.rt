@@ -100,12 +100,12 @@ const TREE_22000: usize = 5 * BYTES + 13;
 const COUNT: usize = 90;
 
 const CASES: [usize; COUNT] = [
-    // "P: 10 nodes, answer 9", in just enough room, a word less, and some more.
+    // P whole, in just enough room, a word less, and some more.
     CONVERT + P + 60 * WORDS,
     CONVERT + P + 59 * WORDS,
     CONVERT + P + 67 * WORDS,
     CONVERT + P + 0 * WORDS,
-    // "After 1 step": no step and all of them too, and one more than there are states.
+    // P after one state; after none and all of them too, and one more than there are states.
     CONVERT_PARTLY + P + 36 * WORDS + 0 * STATES,
     CONVERT_PARTLY + P + 60 * WORDS + 1 * STATES,
     CONVERT_PARTLY + P + 60 * WORDS + 2 * STATES,
@@ -121,7 +121,7 @@ const CASES: [usize; COUNT] = [
     CONVERT + ROWLESS + 12 * WORDS,
     CONVERT_PARTLY + ROWLESS + 12 * WORDS + 1 * STATES,
     CONVERT + FINALLESS + 18 * WORDS,
-    // "Trees of P", and words that are no tree.
+    // Runs of P, and words that are no tree.
     RUN + P + TREE_100,
     RUN + P + TREE_11000,
     RUN + P + TREE_10100,
