@@ -20,7 +20,7 @@ ROOT = os.path.dirname(os.path.dirname(os.path.abspath(__file__)))
 MADE = os.path.join(ROOT, "target", "fuzz")
 KIT_CLANG = os.path.realpath(os.path.join(MADE, "toolchain", "bin", "llvm-ar"))
 HARNESS = os.path.join(MADE, "exact", "release", "libfuzz_doors.a")
-HATCHES = os.path.join(MADE, "hatches.o")
+CRATES = ["doors", "bridges", "hatches"]
 OTHER = {"ult": "ule", "ule": "ult", "eq": "ne", "ne": "eq"}
 CONSTANT = re.compile(r"(?:= (?:add|mul|sub|udiv|urem|shl|lshr|icmp)\b.*, |store i(?:8|16|32|64) )(\d+)\b")
 
@@ -41,15 +41,16 @@ def mistakes(lines):
             yield place, line[:start] + str(int(constant.group(1)) + 1) + line[end:], function
 
 
-def how_noticed(lines, folder):
-    """Where the mistake shows: in the replay, in the fuzzing, or nowhere."""
+def how_noticed(crate, lines, folder):
+    """Where a mistake in a crate's module shows: in the replay, in the fuzzing, or nowhere."""
     source, compiled, program = (os.path.join(folder, name) for name in ("mutant.ll", "mutant.o", "mutant"))
     with open(source, "w") as file:
         file.write("\n".join(lines))
     target = ["--target=x86_64-unknown-linux-gnu", "-march=x86-64", "--no-default-config"]
     sanitizers = ["-fsanitize=address", "-fsanitize-coverage=inline-8bit-counters,pc-table,trace-cmp"]
     subprocess.run([KIT_CLANG, "--driver-mode=gcc", *target, "-fPIC", "-O1", *sanitizers, "-c", "-x", "ir", source, "-o", compiled], check=True)
-    subprocess.run(["clang-14", "-fsanitize=fuzzer,address", compiled, HATCHES, HARNESS, "-o", program], check=True)
+    others = [os.path.join(MADE, other + ".o") for other in CRATES if other != crate]
+    subprocess.run(["clang-14", "-fsanitize=fuzzer,address", compiled, *others, HARNESS, "-o", program], check=True)
     found = os.path.join(folder, "found")
     shutil.rmtree(found, ignore_errors=True)
     os.mkdir(found)
@@ -72,18 +73,21 @@ def stops(words):
 
 def main():
     how_many, seed = int(sys.argv[1]), int(sys.argv[2]) if len(sys.argv) > 2 else 1
-    with open(os.path.join(MADE, "doors.ll")) as file:
-        lines = file.read().split("\n")
-    every = list(mistakes(lines))
+    modules = {}
+    for crate in CRATES:
+        with open(os.path.join(MADE, crate + ".ll")) as file:
+            modules[crate] = file.read().split("\n")
+    every = [(crate, *mistake) for crate in CRATES for mistake in mistakes(modules[crate])]
     chosen = random.Random(seed).sample(every, min(how_many, len(every)))
     counts = {"replay": 0, "fuzzing": 0, "nowhere": 0}
     with tempfile.TemporaryDirectory() as folder:
-        assert how_noticed(lines, folder) == "nowhere", "it stops without any mistake"
-        for place, line, function in chosen:
-            how = how_noticed(lines[:place] + [line] + lines[place + 1 :], folder)
+        assert how_noticed("doors", modules["doors"], folder) == "nowhere", "it stops without any mistake"
+        for crate, place, line, function in chosen:
+            lines = modules[crate]
+            how = how_noticed(crate, lines[:place] + [line] + lines[place + 1 :], folder)
             counts[how] += 1
             if how != "replay":
-                print(f"{how}: {function}, line {place + 1}: {lines[place].strip()}  ->  {line.strip()}  {counts}", flush=True)
+                print(f"{how}: {crate}, {function}, line {place + 1}: {lines[place].strip()}  ->  {line.strip()}  {counts}", flush=True)
     print(f"of {len(every)} mistakes {len(chosen)} were tried; where they showed: {counts}")
 
 

@@ -3,7 +3,7 @@
 use std::path::Path;
 
 /// The crates whose doors the archives have; each archive is named after its crate.
-const CRATES: [&str; 2] = ["doors", "hatches"];
+const CRATES: [&str; 3] = ["doors", "bridges", "hatches"];
 
 fn main() {
     let folder = Path::new(env!("CARGO_MANIFEST_DIR")).join("../../target/staticlib");

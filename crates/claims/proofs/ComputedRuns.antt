@@ -21,7 +21,8 @@ use Rattle.trees.proofs.Answers.{answer-tree, one-set}
 use Rattle.claims.proofs.Drafts.{unused}
 use Rattle.ground.proofs.Lists.{of-all}
 use Rattle.claims.specs.DraftFiles.{fileUnused}
-use Rattle.claims.specs.WorkedDrafts.{leaf, over, pair}
+use Rattle.claims.specs.Slips.{leaf}
+use Rattle.claims.specs.WorkedDrafts.{over, pair}
 use Rattle.claims.specs.ComputedFiles.{rule, heldP}
 use Rattle.claims.specs.Computed.{RunCases}
 use Rattle.claims.proofs.DraftsHeld.{drafts-held}

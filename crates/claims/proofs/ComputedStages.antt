@@ -15,8 +15,8 @@ use Rattle.ground.specs.Lists.{those}
 use Rattle.theory.specs.Acceptance.{OpenOnly, fills, stays, AcceptsAt, Accepts}
 use Rattle.theory.specs.Stages.{holesTable, ruleShape, rulesTable, startTable, ruleRows, start, altMade, catMade, iterMade, joinMadeFrom, joinMade, loopingNode, incomingNode, outgoingNode, standInMade, replacedMade, replacedRows, remainsNode, eliminatedStage, eliminatedStages, stageAfter, joinStage, converted, nodeBound}
 use Rattle.elimination.specs.Answers.{wholeNodes}
-use Rattle.claims.specs.WorkedDrafts.{leaf}
-use Rattle.claims.specs.Computed.{leafᴱ, waiting, StageCases}
+use Rattle.claims.specs.Slips.{leaf, leafᴱ}
+use Rattle.claims.specs.Computed.{waiting, StageCases}
 
 -- ---- the list
 

@@ -21,7 +21,8 @@ use Rattle.ground.specs.Lists.{those}
 use Rattle.theory.specs.RowLists.{ascending, finalStates}
 use Rattle.theory.specs.Stages.{holesTable, ruleShape, rulesTable, startTable, ruleRows, start, altMade, catMade, iterMade, joinMadeFrom, joinMade, loopingNode, incomingNode, outgoingNode, standInMade, replacedMade, replacedRows, remainsNode, eliminatedStage, eliminatedStages, stageAfter, joinStage, converted, nodeBound, boundOf}
 use Rattle.theory.proofs.Theorem.{wholly-ascending}
-use Rattle.claims.specs.WorkedDrafts.{leaf, over, pair, wordsP, wordsOrder, wordsGrouping, Chain, ends, goes}
+use Rattle.claims.specs.Slips.{leaf}
+use Rattle.claims.specs.WorkedDrafts.{over, pair, wordsP, wordsOrder, wordsGrouping, Chain, ends, goes}
 use Rattle.claims.specs.ComputedFiles.{rule, heldP}
 
 -- what the drafts' files hold [10.2, 10.9 to 10.16]

@@ -30,7 +30,8 @@ use Rattle.front.specs.Answers.{printing, Prints}
 use Rattle.front.proofs.Outcomes.{text-holds, made-holds, room-both}
 use Rattle.claims.proofs.Drafts.{P, pairs, nested, endless, rowless, finalless, unused, order, grouping, numbers, AnswerDenotes, Leaf, pairs-denotes, nested-denotes, endless-denotes, rowless-denotes, finalless-denotes, unused-denotes, order-denotes, grouping-denotes}
 use Rattle.claims.specs.DraftFiles.{fileP, filePairs, fileNested, fileEndless, fileRowless, fileFinalless, fileUnused, fileOrder, fileGrouping}
-use Rattle.claims.specs.WorkedDrafts.{whole, part, place, Gives, DenotesTree, DenotesJust, leaf, over, pair, wordsP, sizesP, listingP, wordsOrder, wordsGrouping, Chain, WorkedDrafts}
+use Rattle.claims.specs.Slips.{leaf}
+use Rattle.claims.specs.WorkedDrafts.{whole, part, place, Gives, DenotesTree, DenotesJust, over, pair, wordsP, sizesP, listingP, wordsOrder, wordsGrouping, Chain, WorkedDrafts}
 use Rattle.claims.proofs.Done.{whole-room}
 use Rattle.claims.proofs.DraftsHeld.{drafts-held}
 use Rattle.claims.proofs.DraftRuns.{P-100, P-11000, P-10100, P-0, P-10, P-00, P-none}

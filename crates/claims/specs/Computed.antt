@@ -32,7 +32,8 @@ use Rattle.theory.specs.Stages.{stageAfter, converted, nodeBound}
 use Rattle.elimination.specs.Answers.{wholeNodes}
 use Rattle.front.specs.Answers.{mostMade}
 use Rattle.claims.specs.DraftFiles.{fileUnused}
-use Rattle.claims.specs.WorkedDrafts.{leaf, pair, wordsP}
+use Rattle.claims.specs.Slips.{leaf, leafᴱ}
+use Rattle.claims.specs.WorkedDrafts.{pair, wordsP}
 use Rattle.claims.specs.ComputedFiles.{rule, heldP, FileCases}
 
 -- ---- sets of states [2.7 to 2.10]: {0,2} is 5
@@ -69,9 +70,6 @@ pub record RunCases : Type 0 where
   pub productive : (r : ProductiveStates) → ProductivePromise fileUnused r → r ≡ record { refusal = refusal 0; states = record { 0 = 5 } }
 
 -- ---- tables
-
-abbrev pub leafᴱ : ℕ → Expr
-leafᴱ f = symbolᴱ f []ᴱ
 
 abbrev pub pairᴱ : ℕ → Expr → Expr → Expr
 pairᴱ f a b = symbolᴱ f (a ∷ᴱ b ∷ᴱ []ᴱ)

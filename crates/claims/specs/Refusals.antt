@@ -6,6 +6,7 @@ use mathlib.Core.Bool.{Bool, true, false}
 use mathlib.Core.Logic.{_↔_}
 use mathlib.Core.List.{List, [], _∷_, List·Memᴰ}
 use lib.ListN.{length, replicate}
+use Rattle.ground.specs.Writing.{allZero}
 use Rattle.automaton.specs.declared.Automaton.{Automaton}
 use Rattle.automaton.specs.declared.Refusal.{Refusal}
 use Rattle.automaton.specs.declared.Reading.{Reading}
@@ -115,7 +116,7 @@ fileNumbers = 1 ∷ 2 ∷ 3 ∷ 4 ∷ 5 ∷ []
 
 -- the words lent for nodes: each of them 0 with 6, and as they were with any other refusal [4.22]
 pub record WordsLeft (number : ℕ) (before after : List ℕ) : Type 0 where
-  pub zeroed : number ≡ 6 → after ≡ replicate (length before) 0
+  pub zeroed : number ≡ 6 → after ≡ allZero before
   pub unchanged : (number ≡ 6 → ⊥) → after ≡ before
 
 -- the table of functions, one by one [4.25]
@@ -145,4 +146,4 @@ pub record RefusesExactly : Type 0 where
   -- a file's refusal stands in the text, so that 6 is the only number [9.13]
   pub printed : (file nodes after out bytes : List ℕ) (r : Printing) → Prints file nodes after out bytes r
       → Refuses (6 ∷ []) (PrintRefused file nodes out) (r .refusal .number)
-      ((r .length ≡ 0) × (after ≡ replicate (length nodes) 0) × (bytes ≡ out))
+      ((r .length ≡ 0) × (after ≡ allZero nodes) × (bytes ≡ out))

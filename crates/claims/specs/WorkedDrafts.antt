@@ -26,6 +26,7 @@ use Rattle.theory.specs.RowLists.{listPlaces}
 use Rattle.elimination.specs.Answers.{PartlyAnswered, WhollyAnswered}
 use Rattle.front.specs.declared.Printing.{Printing}
 use Rattle.front.specs.Answers.{printing, Prints}
+use Rattle.claims.specs.Slips.{leaf}
 use Rattle.claims.specs.DraftFiles.{fileP, filePairs, fileNested, fileEndless, fileRowless, fileFinalless, fileUnused, fileOrder, fileGrouping}
 
 -- ---- answers, spelled out
@@ -63,10 +64,7 @@ DenotesJust file Trees =
     (before after : List ℕ) (r : Wholly) → WhollyAnswered file before after r → r .refusal .number ≡ 0
     → (t : Tree) → Denotes (exprAt (tableOf after (r .nodes)) (r .answer)) t ↔ Trees t
 
--- the trees of the drafts: f alone, f(t), f(t,u) [0.6]
-abbrev pub leaf : ℕ → Tree
-leaf f = node f []ᶠ
-
+-- the trees of the drafts that are no leaf: f(t), f(t,u) [0.6]
 abbrev pub over : ℕ → Tree → Tree
 over f t = node f (t ∷ᶠ []ᶠ)
 

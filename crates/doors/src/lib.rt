@@ -1,14 +1,12 @@
 // Doors in C's calling convention to the public functions on files, trees and tables, for tests and benchmarks; `hatches` has those to sets and
-// helpers. Each calls the function behind it and promises the same, by the name of the promise that the claims cite: so a function whose
-// `ensures` said less than that promise would leave its door unproved.
+// helpers, `bridges` those to conversions. Each calls the function behind it and promises the same, by the name of the promise that the claims
+// cite: so a function whose `ensures` said less than that promise would leave its door unproved.
 use automaton::Automaton;
 use automaton::Reading;
 use automaton::Refusal;
-use elimination::Partly;
-use elimination::Wholly;
 use expressions::Measured;
+use expressions::Node;
 use expressions::Shape;
-use front::Printing;
 use listing::Listed;
 use trees::ProductiveStates;
 use trees::ReachedStates;
@@ -17,11 +15,11 @@ ghost use mathlib.Core.Path.{_≡_};
 ghost use Rattle.automaton.specs.Answers.{readAnswer};
 ghost use Rattle.writer.specs.Answers.{Written};
 ghost use Rattle.trees.specs.Promises.{RunPromise, ProductivePromise};
+ghost use Rattle.expressions.specs.Nodes.{childCount};
+ghost use Rattle.expressions.specs.Words.{nodeIn};
 ghost use Rattle.expressions.specs.Making.{Makes};
 ghost use Rattle.expressions.specs.Answers.{SoundAnswer, Measures};
 ghost use Rattle.listing.specs.Answers.{Lists};
-ghost use Rattle.elimination.specs.Answers.{PartlyAnswered, WhollyAnswered};
-ghost use Rattle.front.specs.Answers.{Prints};
 
 // ---- the automaton file
 
@@ -58,6 +56,20 @@ pub extern "C" fn door_productive(file: &[u8]) -> ProductiveStates
 // ---- tables
 
 #[no_mangle]
+pub extern "C" fn door_child_count(shape: Shape) -> u32
+    ensures { λ r. ⌜ r ≡ childCount (shape .kind) (shape .label) ⌝ }
+{
+    shape.child_count()
+}
+
+#[no_mangle]
+pub extern "C" fn door_node_at(words: &[u32], i: usize) -> Node
+    ensures { λ r. ⌜ r ≡ nodeIn (now (words .entry)) i ⌝ }
+{
+    expressions::node_at(words, i)
+}
+
+#[no_mangle]
 pub extern "C" fn door_is_sound(words: &[u32], count: usize, answer: usize) -> bool
     ensures { λ r. ⌜ SoundAnswer (now (words .entry)) count answer r ⌝ }
 {
@@ -68,7 +80,15 @@ pub extern "C" fn door_is_sound(words: &[u32], count: usize, answer: usize) -> b
 pub extern "C" fn door_make(words: &mut [u32], count: usize, shape: Shape) -> Refusal
     ensures { λ r. ⌜ Makes (now (words .entry)) count shape (now (words .exit)) r ⌝ }
 {
-    expressions::make(words, count, shape)
+    expressions::make(
+        words,
+        count,
+        shape.kind,
+        shape.label,
+        shape.first,
+        shape.second,
+        shape.third,
+    )
 }
 
 #[no_mangle]
@@ -88,27 +108,4 @@ pub extern "C" fn door_list(words: &[u32], count: usize, answer: usize, out: &mu
     ensures { λ r. ⌜ Lists (now (words .entry)) count answer (now (out .entry)) (now (out .exit)) r ⌝ }
 {
     listing::list(words, count, answer, out)
-}
-
-// ---- conversions, and the text that is printed
-
-#[no_mangle]
-pub extern "C" fn door_convert_partly(file: &[u8], k: u32, nodes: &mut [u32]) -> Partly
-    ensures { λ r. ⌜ PartlyAnswered (now (file .entry)) k (now (nodes .entry)) (now (nodes .exit)) r ⌝ }
-{
-    elimination::convert_partly(file, k, nodes)
-}
-
-#[no_mangle]
-pub extern "C" fn door_convert(file: &[u8], nodes: &mut [u32]) -> Wholly
-    ensures { λ r. ⌜ WhollyAnswered (now (file .entry)) (now (nodes .entry)) (now (nodes .exit)) r ⌝ }
-{
-    elimination::convert(file, nodes)
-}
-
-#[no_mangle]
-pub extern "C" fn door_printed(file: &[u8], nodes: &mut [u32], out: &mut [u8]) -> Printing
-    ensures { λ r. ⌜ Prints (now (file .entry)) (now (nodes .entry)) (now (nodes .exit)) (now (out .entry)) (now (out .exit)) r ⌝ }
-{
-    front::printed(file, nodes, out)
 }

@@ -1,33 +1,32 @@
--- Joining, row by row: what stands before each row, and the ways on from there.
+-- Joining, row by row.
 use Prim.Native.Nat.{ℕ, _+_, _<_, _≤_}
 use native.Mathlib.Omega.{arith}
+use native.Mathlib.Nat.{mod-lt}
 use mathlib.Core.Path.{_≡_, refl, sym, _∙_, ap, ap₂, subst}
 use mathlib.Core.Bool.{Bool, true, false, cond, not, _&&_}
-use mathlib.Core.List.{List, [], _∷_}
-use lib.ListN.{length, getD, drop}
+use mathlib.Core.List.{List, [], _∷_, _++_, map-append}
+use lib.ListN.{length, getD, take}
 use lib.Dec.{eqb}
 use borrow.Author.Tests.{eq-eqb, ne-eqb}
 use Rattle.sets.specs.Members.{has, stateWidth, ofWord}
 use Rattle.sets.proofs.Membership.{has-cut}
 use Rattle.sets.proofs.Bits.{has-high}
 use Rattle.ground.specs.Lists.{All, those}
-use Rattle.ground.proofs.Lists.{to-all}
+use Rattle.ground.proofs.Lists.{to-all, those-append, those-all}
 use Rattle.expressions.specs.declared.Node.{Node}
 use Rattle.expressions.specs.Nodes.{Table, nodeAt}
-use Rattle.expressions.specs.Words.{tableOf, nodeIn}
-use Rattle.expressions.proofs.Words.{length-table}
+use Rattle.expressions.specs.Words.{nodeIn}
 use Rattle.theory.specs.declared.NodeRow.{NodeRow}
 use Rattle.theory.specs.RowLists.{finalTarget}
 use Rattle.theory.specs.Stages.{Stage, Made, already, nodes, altMade, joinMadeFrom, joinMade, joinStage, loopingNode, incomingNode}
 use Rattle.theory.proofs.Grows.{Grown, grown-none, grown-then, grown-longer, grown-node, alt-grows, joinFrom-grows}
-use Rattle.theory.proofs.Turns.{join-done, join-next, those-none, those-take, those-skip}
+use Rattle.theory.proofs.MirrorRows.{low-nodes}
 use Rattle.elimination.specs.declared.maker.Got.{Got}
 use Rattle.elimination.specs.declared.rows.Rows.{Rows}
-use Rattle.elimination.specs.Inside.{Ready, Holds, GivesNode, noRow, rowsIn, Listed, stageIn, openIn, pickedBy, picks, joinedRow, pickedMade}
-use Rattle.elimination.proofs.Holding.{never, holds-self, holds-length, holds-table, holds-ready, holds-then}
-use Rattle.elimination.proofs.Makers.{node-read}
-use Rattle.elimination.proofs.Composing.{given, gives-stop, gives-then, alt-low}
-use Rattle.elimination.proofs.RowList.{row-next, row-low, rows-end}
+use Rattle.elimination.specs.Inside.{Ready, HasNode, GivesNode, GoesOn, noRow, rowsIn, Tidy, LowRows, stageOf, openIn, pickedBy, picks, pickedMade, joinedRow}
+use Rattle.elimination.proofs.Room.{ready-less}
+use Rattle.elimination.proofs.Makers.{gives-same, gives-other, has-node, joinFrom-low}
+use Rattle.elimination.proofs.RowList.{low-take, rows-more, rows-all, row-low}
 
 -- ---- which rows are joined
 
@@ -54,7 +53,7 @@ picks-every : (table : Table) (rows : List NodeRow) → All (λ row. row .target
 unfolding those
 picks-every table [] a = refl
 picks-every table (row ∷ rows) a =
-    rw (eq-eqb (row .target) finalTarget (a .0), has-high stateWidth (ofWord stateWidth (nodeAt table (row .node) .opens)) finalTarget (native.Mathlib.Nat.mod-lt _ (omega arith)) (omega arith))
+    rw (eq-eqb (row .target) finalTarget (a .0), has-high stateWidth (ofWord stateWidth (nodeAt table (row .node) .opens)) finalTarget (mod-lt _ (omega arith)) (omega arith))
     (ap (row ∷_) (picks-every table rows (a .1)))
 
 pub picked-every : (stage : Stage) → All (λ row. row .target ≡ finalTarget) (stage .rows) → pickedMade finalTarget false stage ≡ joinStage stage
@@ -74,152 +73,111 @@ picked-other q target node found looping e n = rw (ne-eqb target q (λ f. n (e �
 
 -- ---- one row
 
-module _ (test : NodeRow → Bool) (table : Table) (a : ℕ) (row : NodeRow) where
-  joined-taken : test row ≡ true → joinedRow test table a row ≡ altMade table a (row .node)
-  unfolding joinedRow
-  joined-taken e = rw e
+joined-grows : (q : ℕ) (looping : Bool) (row : NodeRow) (made : Made) → Grown (made .table) (joinedRow q looping row made .table)
+unfolding joinedRow
+joined-grows q looping row made = go (picks q looping (made .table) row)
+  where
+    go : (b : Bool) → Grown (made .table) ((cond {A = Made} b (altMade (made .table) (made .node) (row .node)) made) .table)
+    go true = alt-grows (made .table) (made .node) (row .node)
+    go false = grown-none (made .table)
 
-  joined-left : test row ≡ false → joinedRow test table a row ≡ already table a
-  unfolding joinedRow
-  joined-left e = rw e
-
-  joined-grows : Grown table (joinedRow test table a row .table)
-  joined-grows = go (test row) refl
-    where
-      go : (b : Bool) → test row ≡ b → Grown table (joinedRow test table a row .table)
-      go true e = rw (joined-taken e) (alt-grows table a (row .node))
-      go false e = rw (joined-left e) (grown-none table)
-
-  joined-low : a < length table → row .node < length table → joinedRow test table a row .node < length (joinedRow test table a row .table)
-  joined-low ha hr = go (test row) refl
-    where
-      go : (b : Bool) → test row ≡ b → joinedRow test table a row .node < length (joinedRow test table a row .table)
-      go true e = rw (joined-taken e) (alt-low table a (row .node) ha hr)
-      go false e = rw (joined-left e) ha
-
-  joined-next : (rest : List NodeRow)
-      → joinMadeFrom table a (nodes (those test (row ∷ rest))) ≡ joinMadeFrom (joinedRow test table a row .table) (joinedRow test table a row .node) (nodes (those test rest))
-  joined-next rest = go (test row) refl
-    where
-      go : (b : Bool) → test row ≡ b
-          → joinMadeFrom table a (nodes (those test (row ∷ rest))) ≡ joinMadeFrom (joinedRow test table a row .table) (joinedRow test table a row .node) (nodes (those test rest))
-      go true e = rw (joined-taken e, those-take test row rest e) (join-next table a (row .node) (nodes (those test rest)))
-      go false e = rw (joined-left e, those-skip test row rest e) refl
+abbrev RowSuits : NodeRow → Made → Type 0
+RowSuits row made = (made .node < length (made .table)) × (row .node < length (made .table))
 
 -- `join_row`, by its test on the words
-module _ (words : List ℕ) (left : Got) (ready : Ready words (left .count)) (going : left .full ≡ false) (row : NodeRow) (low : row .node < left .count) (q : ℕ) (looping r : Bool)
-    (e : r ≡ pickedBy q looping (row .target) (nodeIn words (row .node))) where
-  pick-is : picks q looping (tableOf words (left .count)) row ≡ r
-  pick-is = sym (e ∙ ap (pickedBy q looping (row .target)) (node-read words (left .count) ready (row .node) low))
+module _ (words : List ℕ) (left : Got) (row : NodeRow) (q : ℕ) (looping r : Bool) (e : r ≡ pickedBy q looping (row .target) (nodeIn words (row .node))) where
+  pick-is : {before : List ℕ} {made : Made} → HasNode before made words left → row .node < length (made .table) → picks q looping (made .table) row ≡ r
+  pick-is h low = sym (e ∙ ap (pickedBy q looping (row .target)) (has-node h (row .node) low))
 
-  pub row-joined : r ≡ true → (after : List ℕ) (next : Got) → GivesNode words (altMade (tableOf words (left .count)) (left .node) (row .node)) after next
-      → GivesNode words (joinedRow (picks q looping (tableOf words (left .count))) (tableOf words (left .count)) (left .node) row) after next
-  row-joined t after next x = rw (joined-taken (picks q looping (tableOf words (left .count))) (tableOf words (left .count)) (left .node) row (pick-is ∙ t)) x
+  pub row-joined : r ≡ true → (after : List ℕ) (next : Got)
+      → GoesOn (RowSuits row) (λ made. altMade (made .table) (made .node) (row .node)) words left after next
+      → GoesOn (RowSuits row) (joinedRow q looping row) words left after next
+  unfolding joinedRow
+  row-joined t after next x before made g s =
+      gives-other (made .table) (altMade (made .table) (made .node) (row .node)) (joinedRow q looping row made)
+      (λ room. sym (ap (λ (b : Bool). cond b (altMade (made .table) (made .node) (row .node)) made) (pick-is (g .done room) (s room .1) ∙ t)))
+      (alt-grows (made .table) (made .node) (row .node)) (joined-grows q looping row made) (x before made g s)
 
-  pub row-passed : r ≡ false → GivesNode words (joinedRow (picks q looping (tableOf words (left .count))) (tableOf words (left .count)) (left .node) row) words left
-  row-passed t =
-      rw (joined-left (picks q looping (tableOf words (left .count))) (tableOf words (left .count)) (left .node) row (pick-is ∙ t))
-      (record {
-        full = λ f. absurd (never (sym f ∙ going));
-        holds = λ _. holds-self words (left .count) ready;
-        counted = λ _. sym (length-table words (left .count));
-        node = λ _. refl;
-      })
+  pub row-passed : r ≡ false → GoesOn (RowSuits row) (joinedRow q looping row) words left words left
+  unfolding joinedRow
+  row-passed t before made g s =
+      gives-other (made .table) made (joinedRow q looping row made)
+      (λ room. sym (ap (λ (b : Bool). cond b (altMade (made .table) (made .node) (row .node)) made) (pick-is (g .done room) (s room .1) ∙ t)))
+      (grown-none (made .table)) (joined-grows q looping row made) g
 
--- ---- the loop
+-- ---- the rows one after the other
 
--- what is joined so far, and what is left to join
-pub record JoinLoop (q : ℕ) (looping : Bool) (before : List ℕ) (count : ℕ) (list : Rows) (words : List ℕ) (got : Got) (i : ℕ) : Type 0 where
+joinFrom-then : (table : Table) (a : ℕ) (bs cs : List ℕ) → joinMadeFrom table a (bs ++ cs) ≡ joinMadeFrom (joinMadeFrom table a bs .table) (joinMadeFrom table a bs .node) cs
+unfolding joinMadeFrom
+joinFrom-then table a [] cs = refl
+joinFrom-then table a (b ∷ bs) cs = joinFrom-then (altMade table a b .table) (altMade table a b .node) bs cs
+
+-- the rows so far that pass a test, joined; and one more
+abbrev joinedSoFar : (NodeRow → Bool) → Table → List NodeRow → Made
+joinedSoFar test table rows = joinMadeFrom table 0 (nodes (those test rows))
+
+joined-snoc : (test : NodeRow → Bool) (table : Table) (rows : List NodeRow) (row : NodeRow)
+    → joinedSoFar test table (rows ++ (row ∷ [])) ≡ cond (test row) (altMade (joinedSoFar test table rows .table) (joinedSoFar test table rows .node) (row .node)) (joinedSoFar test table rows)
+unfolding those joinMadeFrom
+joined-snoc test table rows row =
+    ap (λ (chosen : List NodeRow). joinMadeFrom table 0 (nodes chosen)) (those-append test rows (row ∷ []))
+    ∙ ap (joinMadeFrom table 0) (map-append (λ (r : NodeRow). r .node) (those test rows) (those test (row ∷ [])))
+    ∙ joinFrom-then table 0 (nodes (those test rows)) (nodes (those test (row ∷ [])))
+    ∙ go (test row)
+  where
+    go : (b : Bool)
+        → joinMadeFrom (joinedSoFar test table rows .table) (joinedSoFar test table rows .node) (nodes (cond b (row ∷ []) []))
+        ≡ cond b (altMade (joinedSoFar test table rows .table) (joinedSoFar test table rows .node) (row .node)) (joinedSoFar test table rows)
+    go true = refl
+    go false = refl
+
+abbrev JoinSuits : Rows → Made → Type 0
+JoinSuits list made = (0 < length (made .table)) × LowRows (rowsIn list) (made .table)
+
+pub record JoinLoop (q : ℕ) (looping : Bool) (list : Rows) (first : List ℕ) (last : Got) (words : List ℕ) (got : Got) (i : ℕ) : Type 0 where
   pub far : i ≤ list .count
-  pub table : Table
-  pub grown : Grown (tableOf before count) table
-  pub holds : Holds before table words
-  pub going : got .full ≡ false
-  pub counted : got .count ≡ length table
-  pub low : got .node < length table
-  pub goal : joinMadeFrom table (got .node) (nodes (those (picks q looping (tableOf before count)) (drop i (rowsIn list)))) ≡ pickedMade q looping (stageIn before count list)
+  pub same : length words ≡ length first
+  pub goes : GoesOn (JoinSuits list) (λ made. joinMadeFrom (made .table) 0 (nodes (those (picks q looping (made .table)) (take i (rowsIn list))))) first last words got
 
-module _ (q : ℕ) (looping : Bool) (before : List ℕ) (count : ℕ) (list : Rows) (k : Listed list count) where
-  test : NodeRow → Bool
-  test = picks q looping (tableOf before count)
+-- what the loop begins with: the table so far, and node 0
+abbrev fromEmpty : Got → Got
+fromEmpty last = record { count = last .count; node = 0 }
 
-  pub loop-start : Ready before count → 0 < count → JoinLoop q looping before count list before (record { full = false; count = count; node = 0 }) 0
-  unfolding joinMade
-  loop-start r h =
-      let l = length-table before count in
-      record {
-        far = omega arith;
-        table = tableOf before count;
-        grown = grown-none (tableOf before count);
-        holds = holds-self before count r;
-        going = refl;
-        counted = sym l;
-        low = omega arith;
-        goal = refl;
-      }
+module _ (q : ℕ) (looping : Bool) (list : Rows) (t : Tidy list) (first : List ℕ) (last : Got) where
+  pub loop-start : JoinLoop q looping list first (fromEmpty last) first (fromEmpty last) 0
+  unfolding those joinMadeFrom
+  loop-start = record { far = omega arith; same = refl; goes = λ before made g s. gives-same g 0 }
 
-  module _ (words : List ℕ) (got : Got) (i : ℕ) (l : JoinLoop q looping before count list words got i) where
-    pub loop-ready : Ready words (got .count)
-    loop-ready = subst (λ (n : ℕ). Ready words n) (sym (l .counted)) (holds-ready (l .holds))
+  module _ (words : List ℕ) (got : Got) (i : ℕ) (l : JoinLoop q looping list first (fromEmpty last) words got i) where
+    pub loop-end : list .count ≤ i → GoesOn (JoinSuits list) (λ made. pickedMade q looping (stageOf (made .table) list)) first last words got
+    unfolding joinMade
+    loop-end h before made g s =
+        subst (λ (rows : List NodeRow). GivesNode before (joinMadeFrom (made .table) 0 (nodes (those (picks q looping (made .table)) rows))) words got) (rows-all t i h) (l .goes before (already (made .table) 0) (gives-same g 0) s)
 
-    pub loop-node : got .node < got .count
-    loop-node = let h = l .low in omega (arith, l .counted)
+    module _ (h : i < list .count) (after : List ℕ) (next : Got) (x : GoesOn (RowSuits (getD (list .places) i noRow)) (joinedRow q looping (getD (list .places) i noRow)) words got after next) where
+      suits : (made : Made) → JoinSuits list made → RowSuits (getD (list .places) i noRow) (joinedSoFar (picks q looping (made .table)) (made .table) (take i (rowsIn list)))
+      suits made ok =
+          let chosen = those (picks q looping (made .table)) (take i (rowsIn list)) in
+          let l = grown-longer (joinFrom-grows (made .table) 0 (nodes chosen)) in
+          let r = row-low t (made .table) (ok .1) i h in
+          let low = those-all (λ row. row .node < length (made .table)) (picks q looping (made .table)) (take i (rowsIn list)) (low-take i (rowsIn list) (made .table) (ok .1)) in
+          (joinFrom-low (made .table) 0 (nodes chosen) (ok .0) (low-nodes (made .table) chosen low), omega arith)
 
-    pub loop-length : length words ≡ length before
-    loop-length = holds-length (l .holds)
+      goes-next : (before : List ℕ) (made : Made) → GivesNode before made first (fromEmpty last) → (Ready before (length (made .table)) → JoinSuits list made)
+          → GivesNode before (joinedSoFar (picks q looping (made .table)) (made .table) (take (i + 1) (rowsIn list))) after next
+      unfolding joinedRow
+      goes-next before made g s =
+          let row = getD (list .places) i noRow in
+          let test = picks q looping (made .table) in
+          let sofar = joinedSoFar test (made .table) (take i (rowsIn list)) in
+          let grew = joinFrom-grows (made .table) 0 (nodes (those test (take i (rowsIn list)))) in
+          gives-other (made .table) (joinedRow q looping row sofar) (joinedSoFar test (made .table) (take (i + 1) (rowsIn list)))
+          (λ room.
+          ap (λ (node : Node). cond (pickedBy q looping (row .target) node) (altMade (sofar .table) (sofar .node) (row .node)) sofar)
+          (grown-node grew (row .node) (row-low t (made .table) (s room .1) i h))
+          ∙ sym (ap (joinedSoFar test (made .table)) (rows-more t i h) ∙ joined-snoc test (made .table) (take i (rowsIn list)) row))
+          (grown-then grew (joined-grows q looping row sofar)) (joinFrom-grows (made .table) 0 (nodes (those test (take (i + 1) (rowsIn list)))))
+          (x before sofar (l .goes before made g s) (λ room. suits made (s (ready-less room (grown-longer grew)))))
 
-    pub loop-end : list .count ≤ i → GivesNode before (pickedMade q looping (stageIn before count list)) words got
-    unfolding test
-    loop-end h =
-        let e = ap (λ (rows : List NodeRow). joinMadeFrom (l .table) (got .node) (nodes (those test rows))) (rows-end k i h) ∙ ap (λ (rows : List NodeRow). joinMadeFrom (l .table) (got .node) (nodes rows)) (those-none test) in
-        subst (λ (m : Made). GivesNode before m words got) (sym (join-done (l .table) (got .node)) ∙ sym e ∙ l .goal)
-        (record { full = λ f. absurd (never (sym f ∙ l .going)); holds = λ _. l .holds; counted = λ _. l .counted; node = λ _. refl })
-
-    module _ (h : i < list .count) where
-      row : NodeRow
-      row = getD (list .places) i noRow
-
-      pub loop-row : getD (list .places) i noRow .node < got .count
-      loop-row = let x = row-low k i h in let y = grown-longer (l .grown) in omega (arith, l .counted, length-table before count)
-
-      module _ (after : List ℕ) (next : Got)
-          (x : GivesNode words (joinedRow (picks q looping (tableOf words (got .count))) (tableOf words (got .count)) (got .node) (getD (list .places) i noRow)) after next) where
-        -- the same on the table that the words hold, by the test on the table at the start
-        here : GivesNode words (joinedRow test (l .table) (got .node) row) after next
-        unfolding joinedRow test row
-        here =
-            let t : tableOf words (got .count) ≡ l .table = ap (tableOf words) (l .counted) ∙ holds-table (l .holds) in
-            let n = grown-node (l .grown) (row .node) (let y = row-low k i h in omega (arith, length-table before count)) in
-            subst (λ (m : Made). GivesNode words m after next)
-            (ap (λ (u : Table). joinedRow (picks q looping u) u (got .node) row) t
-            ∙ ap (λ (node : Node). cond (pickedBy q looping (row .target) node) (altMade (l .table) (got .node) (row .node)) (already (l .table) (got .node))) n) x
-
-        onward : joinMadeFrom (joinedRow test (l .table) (got .node) row .table) (joinedRow test (l .table) (got .node) row .node) (nodes (those test (drop (i + 1) (rowsIn list)))) ≡ pickedMade q looping (stageIn before count list)
-        unfolding test row
-        onward = sym (joined-next test (l .table) (got .node) row (drop (i + 1) (rowsIn list))) ∙ ap (λ (rows : List NodeRow). joinMadeFrom (l .table) (got .node) (nodes (those test rows))) (sym (row-next k i h)) ∙ l .goal
-
-        pub loop-take : next .full ≡ false → JoinLoop q looping before count list after next (i + 1)
-        unfolding test row
-        loop-take f =
-            let made = joinedRow test (l .table) (got .node) row in
-            let g = joined-grows test (l .table) (got .node) row in
-            let y = given here f in
-            let longer = grown-longer (l .grown) in
-            let low = joined-low test (l .table) (got .node) row (l .low) (let z = row-low k i h in omega (arith, length-table before count)) in
-            record {
-              far = omega arith;
-              table = made .table;
-              grown = grown-then (l .grown) g;
-              holds = holds-then (l .holds) (y .holds) (grown-longer g);
-              going = f;
-              counted = y .counted;
-              low = rw (y .node) low;
-              goal = ap (λ (n : ℕ). joinMadeFrom (made .table) n (nodes (those test (drop (i + 1) (rowsIn list))))) (y .node) ∙ onward;
-            }
-
-        pub loop-full : next .full ≡ true → GivesNode before (pickedMade q looping (stageIn before count list)) after next
-        loop-full f =
-            let made = joinedRow test (l .table) (got .node) row in
-            let rest = nodes (those test (drop (i + 1) (rowsIn list))) in
-            let longer = subst (λ (m : Made). length (made .table) ≤ length (m .table)) onward (grown-longer (joinFrom-grows (made .table) (made .node) rest)) in
-            gives-stop {made = made} (gives-then made made (l .holds) here refl (grown-longer (joined-grows test (l .table) (got .node) row))) f (pickedMade q looping (stageIn before count list)) longer
+      pub loop-next : length after ≡ length words → JoinLoop q looping list first (fromEmpty last) after next (i + 1)
+      loop-next same = record { far = omega arith; same = same ∙ l .same; goes = goes-next }

@@ -1,7 +1,6 @@
--- the lent words, the makers of nodes, and the row list
-pub mod Holding
+-- room in the lent words, the makers of nodes, and the row list
+pub mod Room
 pub mod Makers
-pub mod Composing
 pub mod RowList
 -- the start
 pub mod Starting

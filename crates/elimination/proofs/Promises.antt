@@ -1,28 +1,29 @@
 -- The public promises: how they follow from what the private functions do.
-use Prim.Native.Nat.{ℕ, suc, _+_, _*_, _<_, _≤_}
+use Prim.Native.Nat.{ℕ, _+_, _*_, _<_, _≤_}
 use native.Mathlib.Omega.{arith}
 use mathlib.Core.Path.{_≡_, refl, sym, _∙_, ap, ap₂, subst}
-use mathlib.Core.Bool.{Bool, true, false}
+use mathlib.Core.Bool.{true, false}
 use mathlib.Core.List.{List, [], _∷_, _++_, map, map-append}
 use lib.ListN.{length, getD, set, take, drop, replicate, length-map}
-use lib.Seq.{length-take-le, take-all}
+use lib.Seq.{length-take-le}
+use Rattle.sets.specs.Members.{size, stateWidth}
 use Rattle.ground.specs.Lists.{filled}
 use Rattle.ground.specs.Writing.{allZero}
 use Rattle.ground.proofs.Places.{filled-none, filled-set, filled-take}
-use Rattle.automaton.specs.declared.Automaton.{Automaton}
+use Rattle.ground.proofs.Lists.{all-map, map-same}
 use Rattle.automaton.specs.declared.Reading.{Reading}
 use Rattle.automaton.specs.declared.Refusal.{Refusal}
 use Rattle.automaton.specs.Held.{Held, Valid}
 use Rattle.automaton.specs.Checks.{Verdict, holds, fault, verdict}
-use Rattle.automaton.specs.Refusals.{refusal}
+use Rattle.automaton.specs.Refusals.{refusal, noRefusal}
 use Rattle.automaton.specs.Answers.{heldBy, readAnswer}
-use Rattle.automaton.specs.Handed.{Handed}
 use Rattle.automaton.proofs.Pair.{verdict-valid}
 use Rattle.automaton.proofs.Handing.{read-refused, read-done, read-held}
 use Rattle.expressions.specs.declared.Node.{Node}
 use Rattle.expressions.specs.Nodes.{Table}
-use Rattle.expressions.specs.Words.{nodeWidth, nodeIn, tableOf, wordsOf}
-use Rattle.expressions.proofs.Words.{table-words, length-table}
+use Rattle.expressions.specs.Words.{nodeWidth, wordsOf}
+use Rattle.expressions.specs.Soundness.{mostNodes}
+use Rattle.expressions.proofs.Words.{table-words}
 use Rattle.theory.specs.declared.NodeRow.{NodeRow}
 use Rattle.theory.specs.RowLists.{listPlaces}
 use Rattle.theory.specs.Stages.{Stage, Made, waitsFor, stageAfter, converted}
@@ -36,81 +37,75 @@ use Rattle.elimination.specs.declared.ListRow.{ListRow}
 use Rattle.elimination.specs.declared.Partly.{Partly}
 use Rattle.elimination.specs.declared.Wholly.{Wholly}
 use Rattle.elimination.specs.Answers.{wholeNodes, writtenTo, unusedPlace, listRow, listOfRows, refusedPartly, partlyDone, rowOfPlace, stageAnswered, PartlyAnswered, refusedWhole, whollyDone, madeAnswered, WhollyAnswered}
-use Rattle.elimination.specs.Inside.{Ready, TooLarge, Holds, GivesNode, GivesStage, noRow, rowsIn, Listed, Stands, stageIn, reportedRow, ReportsStop, ReportsAnswer, PartlyOf, WhollyOf}
-use Rattle.elimination.proofs.Holding.{never, holds-table, holds-length}
-use Rattle.elimination.proofs.Makers.{node-read}
-use Rattle.elimination.proofs.RowList.{rows-count, rows-few, rows-more, row-low, list-count, rows-of-list}
-use Rattle.elimination.proofs.Composing.{given}
-use Rattle.elimination.proofs.States.{Left}
-use Rattle.elimination.proofs.Conversion.{stop-left}
+use Rattle.elimination.specs.Inside.{Ready, HasNode, GivesNode, noRow, rowsIn, Tidy, LowRows, HasStage, GivesStage, reportedRow, reportedRows, ReportsStop, ReportsAnswer, PartlyOf, WhollyOf}
+use Rattle.elimination.proofs.Room.{never, written-node}
+use Rattle.elimination.proofs.RowList.{rows-count, rows-more, rows-all}
+use Rattle.elimination.proofs.Conversion.{stage-low}
 
 -- ---- the list that is returned
 
-pub record ListLoop (table : Table) (list : Rows) (out : List ListRow) (i : ℕ) : Type 0 where
+pub record ListLoop (words : List ℕ) (list : Rows) (out : List ListRow) (i : ℕ) : Type 0 where
   pub far : i ≤ list .count
-  pub is : out ≡ filled listPlaces unusedPlace (map (listRow table) (take i (rowsIn list)))
+  pub is : out ≡ filled listPlaces unusedPlace (map (reportedRow words) (take i (rowsIn list)))
 
-module _ (words : List ℕ) (count : ℕ) (ready : Ready words count) (list : Rows) (k : Listed list count) where
-  pub list-start : ListLoop (tableOf words count) list (replicate listPlaces unusedPlace) 0
+module _ (words : List ℕ) (list : Rows) (t : Tidy list) where
+  pub list-start : ListLoop words list (replicate listPlaces unusedPlace) 0
   list-start = record { far = omega arith; is = filled-none listPlaces unusedPlace }
 
-  module _ (out : List ListRow) (i : ℕ) (l : ListLoop (tableOf words count) list out i) where
-    pub list-end : list .count ≤ i → out ≡ listOfRows (stageIn words count list)
-    unfolding listOfRows
-    list-end h =
-        let f = l .far in
-        l .is ∙ ap (λ (rows : List NodeRow). filled listPlaces unusedPlace (map (listRow (tableOf words count)) rows)) (take-all i (rowsIn list) (omega (arith, rows-count k)))
+  module _ (out : List ListRow) (i : ℕ) (l : ListLoop words list out i) where
+    pub list-end : list .count ≤ i → out ≡ reportedRows words list
+    list-end h = l .is ∙ ap (λ (rows : List NodeRow). filled listPlaces unusedPlace (map (reportedRow words) rows)) (rows-all t i h)
 
-    module _ (h : i < list .count) where
-      pub list-next : (row : ListRow) → row ≡ reportedRow (nodeIn words (getD (list .places) i noRow .node)) (getD (list .places) i noRow) → ListLoop (tableOf words count) list (set out i row) (i + 1)
-      unfolding listRow waitsFor
-      list-next row er =
-          let place = getD (list .places) i noRow in
-          let table = tableOf words count in
-          let few = rows-few k in
-          let n = rows-count k in
-          let lt = length-take-le i (rowsIn list) (omega arith) in
-          let lm = length-map (take i (rowsIn list)) (listRow table) in
-          record {
-            far = omega arith;
-            is =
-                ap₂ (λ (x : List ListRow) (y : ListRow). set x i y) (l .is) (er ∙ ap (λ (node : Node). reportedRow node place) (node-read words count ready (place .node) (row-low k i h)))
-                ∙ filled-set listPlaces unusedPlace (map (listRow table) (take i (rowsIn list))) (listRow table place) i (sym (lm ∙ lt)) (omega arith)
-                ∙ ap (filled listPlaces unusedPlace) (sym (map-append (listRow table) (take i (rowsIn list)) (place ∷ [])) ∙ ap (map (listRow table)) (sym (rows-more k i h)));
-          }
+    pub list-next : i < list .count → (row : ListRow) → row ≡ reportedRow words (getD (list .places) i noRow) → ListLoop words list (set out i row) (i + 1)
+    list-next h row er =
+        let so = take i (rowsIn list) in
+        let few = t .few in
+        let n = rows-count t in
+        let lt = length-take-le i (rowsIn list) (omega arith) in
+        let lm = length-map so (reportedRow words) in
+        record {
+          far = omega arith;
+          is =
+              ap₂ (λ (x : List ListRow) (y : ListRow). set x i y) (l .is) er
+              ∙ filled-set listPlaces unusedPlace (map (reportedRow words) so) (reportedRow words (getD (list .places) i noRow)) i (sym (lm ∙ lt)) (omega arith)
+              ∙ ap (filled listPlaces unusedPlace) (sym (map-append (reportedRow words) so (getD (list .places) i noRow ∷ [])) ∙ ap (map (reportedRow words)) (sym (rows-more t i h)));
+        }
 
 -- ---- what is reported
 
-module _ (words : List ℕ) (staged : Staged) where
-  pub stop-short : staged .full ≡ true → ReportsStop words staged (allZero words) (refusedPartly (refusal 6))
-  stop-short f = record { short = λ _. (refl, refl); done = λ e. absurd (never (sym f ∙ e)) }
+pub stop-short : (words : List ℕ) (staged : Staged) → mostNodes < staged .count → ReportsStop words staged (allZero words) (refusedPartly (refusal 6))
+stop-short words staged f = record { short = λ _. (refl, refl); done = λ e. absurd (omega arith) }
 
-  pub stop-done : staged .full ≡ false → Listed (staged .list) (staged .count) → (list : List ListRow) → list ≡ listOfRows (stageIn words (staged .count) (staged .list))
-      → ReportsStop words staged words (record { refusal = refusal 0; nodes = staged .count; rows = staged .list .count; list = list })
-  unfolding partlyDone
-  stop-done f k list el = record { short = λ e. absurd (never (sym e ∙ f)); done = λ _. (eq (sym (length-table words (staged .count))) (rows-count k) el, refl) }
-    where
-      eq : {a b c d : ℕ} {x y : List ListRow} → a ≡ b → c ≡ d → x ≡ y → _≡_ {A = Partly} (record { refusal = refusal 0; nodes = a; rows = c; list = x }) (record { refusal = refusal 0; nodes = b; rows = d; list = y })
-      eq p q r = λ i. record { refusal = refusal 0; nodes = p i; rows = q i; list = r i }
+pub stop-done : (words : List ℕ) (staged : Staged) → staged .count ≤ mostNodes → (list : List ListRow) → list ≡ reportedRows words (staged .list)
+    → ReportsStop words staged words (record { refusal = noRefusal; nodes = staged .count; rows = staged .list .count; list = list })
+stop-done words staged f list e =
+    record {
+      short = λ t. absurd (omega arith);
+      done = λ _. (ap (λ (l : List ListRow). record { refusal = noRefusal; nodes = staged .count; rows = staged .list .count; list = l }) e, refl);
+    }
 
-module _ (words : List ℕ) (got : Got) where
-  pub answer-short : got .full ≡ true → ReportsAnswer words got (allZero words) (refusedWhole (refusal 6))
-  answer-short f = record { short = λ _. (refl, refl); done = λ e. absurd (never (sym f ∙ e)) }
+pub answer-short : (words : List ℕ) (got : Got) → mostNodes < got .count → ReportsAnswer words got (allZero words) (refusedWhole (refusal 6))
+answer-short words got f = record { short = λ _. (refl, refl); done = λ e. absurd (omega arith) }
 
-  pub answer-done : got .full ≡ false → ReportsAnswer words got words (record { refusal = refusal 0; nodes = got .count; answer = got .node })
-  unfolding whollyDone
-  answer-done f =
-      record { short = λ e. absurd (never (sym e ∙ f)); done = λ _. (ap (λ (n : ℕ). record { refusal = refusal 0; nodes = n; answer = got .node }) (sym (length-table words (got .count))), refl) }
+pub answer-done : (words : List ℕ) (got : Got) → got .count ≤ mostNodes → ReportsAnswer words got words (record { refusal = noRefusal; nodes = got .count; answer = got .node })
+answer-done words got f = record { short = λ t. absurd (omega arith); done = λ _. (refl, refl) }
+
+-- the list by the words is the list by the table
+reported-is : (before words : List ℕ) (stage : Stage) → words ≡ writtenTo before (stage .table) → LowRows (stage .rows) (stage .table) → map (reportedRow words) (stage .rows) ≡ map (listRow (stage .table)) (stage .rows)
+unfolding listRow waitsFor
+reported-is before words stage e low =
+    map-same (reportedRow words) (listRow (stage .table)) (stage .rows)
+    (all-map (stage .rows) (λ row h. ap (λ (node : Node). record { node = row .node; target = row .target; waits = size stateWidth (node .opens) }) (written-node before (stage .table) words e (row .node) h)) low)
 
 -- ---- room
 
-fits-whole : (words : List ℕ) (table : Table) → length table ≤ wholeNodes words → nodeWidth * length table ≤ length words
+pub fits-ready : (words : List ℕ) (count : ℕ) → count ≤ mostNodes → count ≤ wholeNodes words → Ready words count
 unfolding wholeNodes
-fits-whole words table h = omega arith
+fits-ready words count f h = record { few = f; roomy = omega arith }
 
-whole-fits : (words : List ℕ) (table : Table) → wholeNodes words < length table → nodeWidth * length table ≤ length words → ⊥
+pub short-not : (words : List ℕ) (count : ℕ) → wholeNodes words < count → Ready words count → ⊥
 unfolding wholeNodes
-whole-fits words table h l = omega arith
+short-not words count h r = let g = r .roomy in omega arith
 
 -- ---- what stands in the words and in what is returned
 
@@ -173,53 +168,50 @@ module _ (held : Held) (k : ℕ) (before : List ℕ) where
       far : (other : Held) → verdict file ≡ holds other → k ≤ other .states → ⊥
       far other o h = omega (arith, ap (λ (x : Held). x .states) (one e o))
 
-  module _ (within : k ≤ held .states) (w1 : List ℕ) (staged : Staged) (g : GivesStage before (stageAfter k held) w1 staged) (after : List ℕ) (r : Partly) (x : ReportsStop w1 staged after r) where
-    not-far : {v : Verdict} → v ≡ holds held → (other : Held) → v ≡ holds other → other .states < k → ⊥
-    not-far e other o h = omega (arith, ap (λ (x : Held). x .states) (one e o))
+  -- a stop
+  module _ (within : k ≤ held .states) (w1 : List ℕ) (staged : Staged) (t : Tidy (staged .list)) (g : GivesStage before (stageAfter k held) w1 staged) (el : length w1 ≡ length before) (after : List ℕ) (r : Partly) (x : ReportsStop w1 staged after r) where
+    stop-full : wholeNodes before < length (stageAfter k held .table) → (r ≡ refusedPartly (refusal 6)) × (after ≡ allZero before)
+    stop-full l = let y = x .short (omega (arith, g .over (short-not before (length (stageAfter k held .table)) l))) in (y .0, y .1 ∙ ap (λ (n : ℕ). replicate n 0) el)
 
-    module _ (f : staged .full ≡ true) (el : length w1 ≡ length before) where
-      over : Valid held → length (stageAfter k held .table) ≤ wholeNodes before → ⊥
-      over v l =
-          let few = partly-ascending held v k within .few in
-          g .full f (omega (arith, bound-file held v)) (fits-whole before (stageAfter k held .table) l)
+    module _ (v : Valid held) (l : length (stageAfter k held .table) ≤ wholeNodes before) where
+      ready : Ready before (length (stageAfter k held .table))
+      ready = let few = partly-ascending held v k within .few in fits-ready before (length (stageAfter k held .table)) (omega (arith, bound-file held v)) l
 
-      partly-short : PartlyOf held k before after r
-      partly-short file e =
-          record {
-            faulty = λ number offset d. absurd (no-fault e d);
-            too-far = λ other o h. absurd (not-far e other o h);
-            short = λ other o h l. (x .short f .0, x .short f .1 ∙ ap (λ (n : ℕ). replicate n 0) el);
-            done = λ other o h l. absurd (over (verdict-valid file held e) (rw (← (one e o)) at l));
-            means = λ other o h l. absurd (over (verdict-valid file held e) (rw (← (one e o)) at l));
-          }
+      has : HasStage before (stageAfter k held) w1 staged
+      has = g .done ready
 
-    module _ (f : staged .full ≡ false) where
-      returned : Valid held → r ≡ partlyDone (stageAfter k held)
-      returned v = x .done f .0 ∙ ap partlyDone (stop-left held v before w1 k within staged g f .is)
+      few : staged .count ≤ mostNodes
+      few = let h = ready .few in omega (arith, has .counted)
 
       written : after ≡ writtenTo before (stageAfter k held .table)
-      written = x .done f .1 ∙ g .holds f .words
+      written = x .done few .1 ∙ has .words
 
-      partly-done : PartlyOf held k before after r
+      returned : r ≡ partlyDone (stageAfter k held)
+      unfolding partlyDone listOfRows
+      returned =
+          let stage = stageAfter k held in
+          x .done few .0
+          ∙ eq (has .counted) (rows-count t ∙ ap length (has .listed))
+          (ap (filled listPlaces unusedPlace) (ap (map (reportedRow w1)) (has .listed) ∙ reported-is before w1 stage (has .words) (stage-low held v k within)))
+        where
+          eq : {a b c d : ℕ} {p q : List ListRow} → a ≡ b → c ≡ d → p ≡ q → _≡_ {A = Partly} (record { refusal = noRefusal; nodes = a; rows = c; list = p }) (record { refusal = noRefusal; nodes = b; rows = d; list = q })
+          eq s t u = λ i. record { refusal = noRefusal; nodes = s i; rows = t i; list = u i }
+
+      means : PartlyConverted held (λ q. q < k) (stageAnswered after r)
       unfolding writtenTo
-      partly-done file e =
-          record {
-            faulty = λ number offset d. absurd (no-fault e d);
-            too-far = λ other o h. absurd (not-far e other o h);
-            short = λ other o h l. absurd (whole-fits before (stageAfter k held .table) (rw (← (one e o)) at l) (g .holds f .roomy));
-            done = λ other o h l. rw (← (one e o)) (returned (verdict-valid file held e), written);
-            means = λ other o h l.
-                rw (← (one e o))
-                (subst (PartlyConverted held (λ q. q < k)) (sym (ap₂ stageAnswered written (returned (verdict-valid file held e)) ∙ answered (stageAfter k held) (drop (nodeWidth * length (stageAfter k held .table)) before)))
-                (partly-ascending held (verdict-valid file held e) k within));
-          }
+      means =
+          subst (PartlyConverted held (λ q. q < k)) (sym (ap₂ stageAnswered written returned ∙ answered (stageAfter k held) (drop (nodeWidth * length (stageAfter k held .table)) before)))
+          (partly-ascending held v k within)
 
-    pub partly-stopped : length w1 ≡ length before → PartlyOf held k before after r
-    partly-stopped el = go (staged .full) refl
-      where
-        go : (b : Bool) → staged .full ≡ b → PartlyOf held k before after r
-        go true f = partly-short f el
-        go false f = partly-done f
+    pub partly-stopped : PartlyOf held k before after r
+    partly-stopped file e =
+        record {
+          faulty = λ number offset d. absurd (no-fault e d);
+          too-far = λ other o h. absurd (omega (arith, ap (λ (y : Held). y .states) (one e o)));
+          short = λ other o h l. stop-full (rw (← (one e o)) at l);
+          done = λ other o h l. rw (← (one e o)) (returned (verdict-valid file held e) (rw (← (one e o)) at l), written (verdict-valid file held e) (rw (← (one e o)) at l));
+          means = λ other o h l. rw (← (one e o)) (means (verdict-valid file held e) (rw (← (one e o)) at l));
+        }
 
 -- ---- `convert`
 
@@ -239,45 +231,38 @@ pub wholly-held : (file : List ℕ) (reading : Reading) → reading ≡ readAnsw
     → WhollyAnswered file before after r
 wholly-held file reading er before after r z p = let h = read-held file reading er z in p file (h .in-file ∙ ap holds (sym (h .said)))
 
-module _ (held : Held) (before w1 : List ℕ) (got : Got) (g : GivesNode before (converted held) w1 got) (after : List ℕ) (r : Wholly) (x : ReportsAnswer w1 got after r) where
-  module _ (f : got .full ≡ true) (el : length w1 ≡ length before) where
-    whole-over : Valid held → length (converted held .table) ≤ wholeNodes before → ⊥
-    whole-over v l =
-        let few = wholly-ascending held v .few in
-        g .full f (omega (arith, bound-file held v)) (fits-whole before (converted held .table) l)
+module _ (held : Held) (before w1 : List ℕ) (got : Got) (g : GivesNode before (converted held) w1 got) (el : length w1 ≡ length before) (after : List ℕ) (r : Wholly) (x : ReportsAnswer w1 got after r) where
+  end-full : wholeNodes before < length (converted held .table) → (r ≡ refusedWhole (refusal 6)) × (after ≡ allZero before)
+  end-full l = let y = x .short (omega (arith, g .over (short-not before (length (converted held .table)) l))) in (y .0, y .1 ∙ ap (λ (n : ℕ). replicate n 0) el)
 
-    wholly-short : WhollyOf held before after r
-    wholly-short file e =
-        record {
-          faulty = λ number offset d. absurd (no-fault e d);
-          short = λ other o l. (x .short f .0, x .short f .1 ∙ ap (λ (n : ℕ). replicate n 0) el);
-          done = λ other o l. absurd (whole-over (verdict-valid file held e) (rw (← (one e o)) at l));
-          means = λ other o l. absurd (whole-over (verdict-valid file held e) (rw (← (one e o)) at l));
-        }
+  module _ (v : Valid held) (l : length (converted held .table) ≤ wholeNodes before) where
+    end-ready : Ready before (length (converted held .table))
+    end-ready = let few = wholly-ascending held v .few in fits-ready before (length (converted held .table)) (omega (arith, bound-file held v)) l
 
-  module _ (f : got .full ≡ false) where
-    whole-returned : r ≡ whollyDone (converted held)
-    whole-returned = let y = given g f in x .done f .0 ∙ ap₂ (λ (t : Table) (n : ℕ). whollyDone (record { table = t; node = n })) (y .table) (y .node)
+    end-has : HasNode before (converted held) w1 got
+    end-has = g .done end-ready
 
-    whole-written : after ≡ writtenTo before (converted held .table)
-    whole-written = x .done f .1 ∙ g .holds f .words
+    end-few : got .count ≤ mostNodes
+    end-few = let h = end-ready .few in omega (arith, end-has .counted)
 
-    wholly-done : WhollyOf held before after r
+    end-written : after ≡ writtenTo before (converted held .table)
+    end-written = x .done end-few .1 ∙ end-has .words
+
+    end-returned : r ≡ whollyDone (converted held)
+    unfolding whollyDone
+    end-returned = x .done end-few .0 ∙ ap₂ (λ (a b : ℕ). record { refusal = noRefusal; nodes = a; answer = b }) (end-has .counted) (end-has .node)
+
+    end-means : WhollyConverted held (madeAnswered after r)
     unfolding writtenTo
-    wholly-done file e =
-        record {
-          faulty = λ number offset d. absurd (no-fault e d);
-          short = λ other o l. absurd (whole-fits before (converted held .table) (rw (← (one e o)) at l) (g .holds f .roomy));
-          done = λ other o l. rw (← (one e o)) (whole-returned, whole-written);
-          means = λ other o l.
-              rw (← (one e o))
-              (subst (WhollyConverted held) (sym (ap₂ madeAnswered whole-written whole-returned ∙ answered-made (converted held) (drop (nodeWidth * length (converted held .table)) before)))
-              (wholly-ascending held (verdict-valid file held e)));
-        }
+    end-means =
+        subst (WhollyConverted held) (sym (ap₂ madeAnswered end-written end-returned ∙ answered-made (converted held) (drop (nodeWidth * length (converted held .table)) before)))
+        (wholly-ascending held v)
 
-  pub wholly-ended : length w1 ≡ length before → WhollyOf held before after r
-  wholly-ended el = go (got .full) refl
-    where
-      go : (b : Bool) → got .full ≡ b → WhollyOf held before after r
-      go true f = wholly-short f el
-      go false f = wholly-done f
+  pub wholly-ended : WhollyOf held before after r
+  wholly-ended file e =
+      record {
+        faulty = λ number offset d. absurd (no-fault e d);
+        short = λ other o l. end-full (rw (← (one e o)) at l);
+        done = λ other o l. rw (← (one e o)) (end-returned (verdict-valid file held e) (rw (← (one e o)) at l), end-written (verdict-valid file held e) (rw (← (one e o)) at l));
+        means = λ other o l. rw (← (one e o)) (end-means (verdict-valid file held e) (rw (← (one e o)) at l));
+      }

@@ -1,51 +1,57 @@
--- Replacing, row by row: what stands before each row, and the ways on from there.
+-- Replacing, row by row.
 use Prim.Native.Nat.{ℕ, _+_, _%_, _<_, _≤_}
 use native.Mathlib.Omega.{arith}
 use native.Mathlib.Nat.{mod-eq-of-lt}
 use mathlib.Core.Path.{_≡_, refl, sym, _∙_, ap, ap₂, subst}
 use mathlib.Core.Bool.{Bool, true, false, cond, not}
-use mathlib.Core.List.{List, [], _∷_, _++_, append-nil, append-assoc}
-use lib.ListN.{length, getD, set, drop, replicate}
-use lib.Dec.{eqb}
+use mathlib.Core.List.{List, [], _∷_, _++_, append-nil}
+use lib.ListN.{length, getD, set, take, replicate, length-append, length-set}
 use borrow.Author.Tests.{eq-eqb, ne-eqb}
 use Rattle.sets.specs.Members.{has, stateWidth}
 use Rattle.sets.proofs.Membership.{has-cut}
 use Rattle.ground.specs.Lists.{those}
+use Rattle.ground.proofs.Lists.{those-append}
 use Rattle.expressions.specs.declared.Node.{Node}
 use Rattle.expressions.specs.Nodes.{Table}
-use Rattle.expressions.specs.Words.{tableOf, nodeIn}
-use Rattle.expressions.proofs.Words.{length-table}
+use Rattle.expressions.specs.Words.{nodeIn}
 use Rattle.theory.specs.declared.NodeRow.{NodeRow}
 use Rattle.theory.specs.RowLists.{listPlaces}
 use Rattle.theory.specs.Stages.{Stage, Made, already, catMade, outgoingNode, replacedMade, replacedRows, remainsNode}
-use Rattle.theory.proofs.Grows.{Grown, grown-none, grown-then, grown-longer, replaced-grows, rows-grow}
-use Rattle.theory.proofs.Turns.{those-none, those-take, those-skip, remains-other, outgoing-open, replaced-outgoing, replaced-kept, rows-done, rows-next}
+use Rattle.theory.proofs.Grows.{Grown, grown-none, grown-then, grown-longer, cat-grows, replaced-grows, rows-grow}
+use Rattle.theory.proofs.Turns.{those-none, those-take, those-skip, remains-other, outgoing-open, replaced-outgoing, replaced-kept}
 use Rattle.elimination.specs.declared.maker.Got.{Got}
 use Rattle.elimination.specs.declared.rows.Rows.{Rows}
-use Rattle.elimination.specs.declared.rows.Staged.{Staged}
-use Rattle.elimination.specs.declared.step.Replaced.{Replaced}
-use Rattle.elimination.specs.Inside.{Ready, Holds, GivesNode, noRow, rowsIn, listOf, Listed, openIn, GivesRow, GivesStage, replacedRow}
-use Rattle.elimination.proofs.Holding.{never, holds-self, holds-length, holds-table, holds-ready, holds-then, large-before}
-use Rattle.elimination.proofs.Makers.{node-read, gives-already}
-use Rattle.elimination.proofs.Composing.{given, cat-low, stage-stop}
-use Rattle.elimination.proofs.RowList.{rows-few, row-next, row-low, rows-end, list-none, list-more, list-same, list-count}
+use Rattle.elimination.specs.Inside.{Ready, HasNode, GivesNode, GoesOn, noRow, rowsIn, listOf, Tidy, LowRows, GivesStage, RowsOn, openIn}
+use Rattle.elimination.proofs.Room.{ready-less}
+use Rattle.elimination.proofs.Makers.{gives-same, gives-other, has-node, cat-low}
+use Rattle.elimination.proofs.RowList.{row-low, rows-more, rows-all, rows-put}
 
 -- ---- the node of a row that stays
 
-module _ (words : List ℕ) (count : ℕ) (ready : Ready words count) (q : ℕ) (hq : q < stateWidth) (X : ℕ) (row : NodeRow) (low : row .node < count) (other : row .target ≡ q → ⊥) where
-  outgoing-is : (b : Bool) → openIn q (nodeIn words (row .node)) ≡ b → outgoingNode q (tableOf words count) row ≡ b
-  outgoing-is b e =
-      outgoing-open q (tableOf words count) row (ne-eqb (row .target) q other)
-      ∙ ap (λ (n : Node). has (n .opens) q) (sym (node-read words count ready (row .node) low))
+abbrev StaySuits : NodeRow → ℕ → Made → Type 0
+StaySuits row X made = (row .node < length (made .table)) × (X < length (made .table))
+
+module _ (words : List ℕ) (last : Got) (q : ℕ) (hq : q < stateWidth) (X : ℕ) (row : NodeRow) (other : row .target ≡ q → ⊥) where
+  outgoing-is : {before : List ℕ} {made : Made} (b : Bool) → openIn q (nodeIn words (row .node)) ≡ b → HasNode before made words last → row .node < length (made .table) → outgoingNode q (made .table) row ≡ b
+  outgoing-is {before} {made} b e h low =
+      outgoing-open q (made .table) row (ne-eqb (row .target) q other)
+      ∙ ap (λ (n : Node). has (n .opens) q) (sym (has-node h (row .node) low))
       ∙ sym (has-cut stateWidth (nodeIn words (row .node) .opens) q hq)
       ∙ e
 
-  pub replace-open : openIn q (nodeIn words (row .node)) ≡ true → (after : List ℕ) (r : Got) → GivesNode words (catMade q (tableOf words count) (row .node) X) after r
-      → GivesNode words (replacedMade q X (tableOf words count) row) after r
-  replace-open e after r g = rw (replaced-outgoing q X (tableOf words count) row (outgoing-is true e)) g
+  pub replace-open : openIn q (nodeIn words (row .node)) ≡ true → (after : List ℕ) (r : Got) → GoesOn (StaySuits row X) (λ made. catMade q (made .table) (row .node) X) words last after r
+      → GoesOn (StaySuits row X) (λ made. replacedMade q X (made .table) row) words last after r
+  replace-open e after r x before made g s =
+      gives-other (made .table) (catMade q (made .table) (row .node) X) (replacedMade q X (made .table) row)
+      (λ room. sym (replaced-outgoing q X (made .table) row (outgoing-is true e (g .done room) (s room .0)))) (cat-grows q (made .table) (row .node) X) (replaced-grows q X (made .table) row)
+      (x before made g s)
 
-  pub replace-own : openIn q (nodeIn words (row .node)) ≡ false → GivesNode words (replacedMade q X (tableOf words count) row) words (record { full = false; count = count; node = row .node })
-  replace-own e = rw (replaced-kept q X (tableOf words count) row (outgoing-is false e)) (gives-already words count ready (row .node))
+  pub replace-own : openIn q (nodeIn words (row .node)) ≡ false
+      → GoesOn (StaySuits row X) (λ made. replacedMade q X (made .table) row) words last words (record { count = last .count; node = row .node })
+  replace-own e before made g s =
+      gives-other (made .table) (already (made .table) (row .node)) (replacedMade q X (made .table) row)
+      (λ room. sym (replaced-kept q X (made .table) row (outgoing-is false e (g .done room) (s room .0)))) (grown-none (made .table)) (replaced-grows q X (made .table) row)
+      (gives-same g (row .node))
 
 pub replaced-low : (q X : ℕ) (table : Table) (row : NodeRow) → row .node < length table → X < length table → replacedMade q X table row .node < length (replacedMade q X table row .table)
 unfolding replacedMade
@@ -55,184 +61,160 @@ replaced-low q X table row h hX = go (outgoingNode q table row)
     go true = cat-low q table (row .node) X hX
     go false = h
 
--- ---- what becomes of a row
-
-module _ (q X : ℕ) (table : Table) (row : NodeRow) where
-  left-none : eqb (row .target) q ≡ true → replacedRow q X table row ≡ record { table = table; rows = [] }
-  unfolding replacedRow
-  left-none e = rw e
-
-  left-one : eqb (row .target) q ≡ false
-      → replacedRow q X table row ≡ record { table = replacedMade q X table row .table; rows = record { node = replacedMade q X table row .node; target = row .target } ∷ [] }
-  unfolding replacedRow
-  left-one e = rw e
-
-  left-grows : Grown table (replacedRow q X table row .table)
-  left-grows = go (eqb (row .target) q) refl
-    where
-      go : (b : Bool) → eqb (row .target) q ≡ b → Grown table (replacedRow q X table row .table)
-      go true e = rw (left-none e) (grown-none table)
-      go false e = rw (left-one e) (replaced-grows q X table row)
-
-  left-few : length (replacedRow q X table row .rows) ≤ 1
-  left-few = go (eqb (row .target) q) refl
-    where
-      go : (b : Bool) → eqb (row .target) q ≡ b → length (replacedRow q X table row .rows) ≤ 1
-      go true e = rw (left-none e) (omega arith)
-      go false e = rw (left-one e) (omega arith)
-
-module _ (words : List ℕ) (count : ℕ) (ready : Ready words count) (q X : ℕ) (row : NodeRow) where
-  pub row-gone : row .target ≡ q → GivesRow words (replacedRow q X (tableOf words count) row) words (record { full = false; count = count; kept = 0; row = noRow })
-  row-gone e =
-      rw (left-none q X (tableOf words count) row (eq-eqb (row .target) q e))
-      (record { full = λ f. absurd (never (sym f)); holds = λ _. holds-self words count ready; counted = λ _. sym (length-table words count); kept = λ _. refl; row = λ _. refl })
-
-  pub row-stays : (row .target ≡ q → ⊥) → row .node < count → X < count → (after : List ℕ) (got : Got) → GivesNode words (replacedMade q X (tableOf words count) row) after got
-      → (left : NodeRow) → left ≡ record { node = got .node % 65536; target = row .target } → GivesRow words (replacedRow q X (tableOf words count) row) after (record { full = got .full; count = got .count; kept = 1; row = left })
-  row-stays n low hX after got x left el =
-      rw (left-one q X (tableOf words count) row (ne-eqb (row .target) q n))
-      (record { full = x .full; holds = x .holds; counted = x .counted; kept = λ _. refl; row = λ f. el ∙ ap (λ (m : ℕ). record { node = m; target = row .target }) (uncut f) })
-    where
-      uncut : got .full ≡ false → got .node % 65536 ≡ replacedMade q X (tableOf words count) row .node
-      uncut f =
-          let y = given x f in
-          let t = length-table words count in
-          let m = replaced-low q X (tableOf words count) row (omega arith) (omega arith) in
-          let b = y .holds .few in
-          mod-eq-of-lt (omega (arith, y .node)) ∙ y .node
-
 -- ---- the rows one after the other
 
-abbrev pub ahead : List NodeRow → Stage → Stage
-ahead rows stage = record { table = stage .table; rows = rows ++ stage .rows }
+-- one row more, at the end
+abbrev withRow : ℕ → ℕ → NodeRow → Stage → Stage
+withRow q X row stage =
+    record { table = replacedMade q X (stage .table) row .table; rows = stage .rows ++ (record { node = replacedMade q X (stage .table) row .node; target = row .target } ∷ []) }
 
-left-next : (q X : ℕ) (first table : Table) (row : NodeRow) (rest : List NodeRow)
-    → replacedRows q X table (those (remainsNode q first) (row ∷ rest))
-    ≡ ahead (replacedRow q X table row .rows) (replacedRows q X (replacedRow q X table row .table) (those (remainsNode q first) rest))
-left-next q X first table row rest = go (eqb (row .target) q) refl
-  where
-    go : (b : Bool) → eqb (row .target) q ≡ b
-        → replacedRows q X table (those (remainsNode q first) (row ∷ rest))
-        ≡ ahead (replacedRow q X table row .rows) (replacedRows q X (replacedRow q X table row .table) (those (remainsNode q first) rest))
-    go true e = rw (left-none q X table row e, those-skip (remainsNode q first) row rest (remains-other q first row ∙ ap not e)) refl
-    go false e = rw (left-one q X table row e, those-take (remainsNode q first) row rest (remains-other q first row ∙ ap not e)) (rows-next q X table row (those (remainsNode q first) rest))
+rows-snoc : (q X : ℕ) (table : Table) (rows : List NodeRow) (row : NodeRow) → replacedRows q X table (rows ++ (row ∷ [])) ≡ withRow q X row (replacedRows q X table rows)
+unfolding replacedRows
+rows-snoc q X table [] row = refl
+rows-snoc q X table (first ∷ rows) row =
+    let made = replacedMade q X table first in
+    ap (λ (stage : Stage). record { table = stage .table; rows = record { node = made .node; target = first .target } ∷ stage .rows }) (rows-snoc q X (made .table) rows row)
 
--- the list after what a row leaves
-left-listed : (q X : ℕ) (table : Table) (row : NodeRow) (rows : List NodeRow) (kept : ℕ) (array : List NodeRow) → record { count = kept; places = array } ≡ listOf rows → length rows < listPlaces
-    → record { count = kept + length (replacedRow q X table row .rows); places = set array kept (getD (replacedRow q X table row .rows) 0 noRow) } ≡ listOf (rows ++ replacedRow q X table row .rows)
-left-listed q X table row rows kept array e few = go (eqb (row .target) q) refl
-  where
-    go : (b : Bool) → eqb (row .target) q ≡ b
-        → record { count = kept + length (replacedRow q X table row .rows); places = set array kept (getD (replacedRow q X table row .rows) 0 noRow) } ≡ listOf (rows ++ replacedRow q X table row .rows)
-    go true f = rw (left-none q X table row f) (list-same rows kept array e few)
-    go false f = rw (left-one q X table row f) (list-more rows kept array e few (record { node = replacedMade q X table row .node; target = row .target }))
+-- the rows so far
+abbrev staysSoFar : ℕ → Made → List NodeRow → Stage
+staysSoFar q made rows = replacedRows q (made .node) (made .table) (those (remainsNode q (made .table)) rows)
 
--- ---- the loop
+module _ (q : ℕ) (made : Made) (rows : List NodeRow) (row : NodeRow) where
+  stays-gone : row .target ≡ q → staysSoFar q made (rows ++ (row ∷ [])) ≡ staysSoFar q made rows
+  stays-gone e =
+      let test = remainsNode q (made .table) in
+      ap (replacedRows q (made .node) (made .table))
+      (those-append test rows (row ∷ []) ∙ ap (those test rows ++_) (those-skip test row [] (remains-other q (made .table) row ∙ ap not (eq-eqb (row .target) q e)) ∙ those-none test) ∙ append-nil (those test rows))
 
--- what is replaced so far, and what is left
-pub record ReplaceLoop (before : List ℕ) (count q X : ℕ) (list : Rows) (words : List ℕ) (array : List NodeRow) (kept made i : ℕ) : Type 0 where
+  stays-more : (row .target ≡ q → ⊥) → staysSoFar q made (rows ++ (row ∷ [])) ≡ withRow q (made .node) row (staysSoFar q made rows)
+  stays-more n =
+      let test = remainsNode q (made .table) in
+      ap (replacedRows q (made .node) (made .table))
+      (those-append test rows (row ∷ []) ∙ ap (those test rows ++_) (those-take test row [] (remains-other q (made .table) row ∙ ap not (ne-eqb (row .target) q n)) ∙ ap (row ∷_) (those-none test)))
+      ∙ rows-snoc q (made .node) (made .table) (those test rows) row
+
+abbrev ReplaceSuits : Rows → Made → Type 0
+ReplaceSuits list made = (made .node < length (made .table)) × LowRows (rowsIn list) (made .table)
+
+pub record ReplaceLoop (q : ℕ) (list : Rows) (first : List ℕ) (standin : Got) (words : List ℕ) (array : List NodeRow) (kept : ℕ) (got : Got) (i : ℕ) : Type 0 where
   pub far : i ≤ list .count
+  pub same : length words ≡ length first
   pub short : kept ≤ i
-  pub table : Table
-  pub grown : Grown (tableOf before count) table
-  pub holds : Holds before table words
-  pub counted : made ≡ length table
-  pub rows : List NodeRow
-  pub listed : record { count = kept; places = array } ≡ listOf rows
-  pub goal : ahead rows (replacedRows q X table (those (remainsNode q (tableOf before count)) (drop i (rowsIn list)))) ≡ replacedRows q X (tableOf before count) (those (remainsNode q (tableOf before count)) (rowsIn list))
+  pub whole : length array ≡ listPlaces
+  pub goes : (before : List ℕ) (made : Made) → GivesNode before made first standin → (Ready before (length (made .table)) → ReplaceSuits list made)
+      → GivesStage before (staysSoFar q made (take i (rowsIn list))) words (record { count = got .count; list = record { count = kept; places = array } })
 
-module _ (before : List ℕ) (count q X : ℕ) (list : Rows) (k : Listed list count) where
-  test : NodeRow → Bool
-  test = remainsNode q (tableOf before count)
-
-  whole : Stage
-  whole = replacedRows q X (tableOf before count) (those (remainsNode q (tableOf before count)) (rowsIn list))
-
-  pub replace-start : Ready before count → ReplaceLoop before count q X list before (replicate listPlaces noRow) 0 count 0
-  replace-start r =
+module _ (q : ℕ) (list : Rows) (t : Tidy list) (first : List ℕ) (standin : Got) where
+  pub replace-start : ReplaceLoop q list first standin first (list .places) 0 standin 0
+  unfolding replacedRows those rowsIn
+  replace-start =
       record {
         far = omega arith;
+        same = refl;
         short = omega arith;
-        table = tableOf before count;
-        grown = grown-none (tableOf before count);
-        holds = holds-self before count r;
-        counted = sym (length-table before count);
-        rows = [];
-        listed = list-none;
-        goal = refl;
+        whole = t .whole;
+        goes = λ before made g s.
+            record { done = λ room. let h = g .done room in record { words = h .words; counted = h .counted; listed = refl }; over = g .over };
       }
 
-  module _ (words : List ℕ) (array : List NodeRow) (kept made i : ℕ) (l : ReplaceLoop before count q X list words array kept made i) where
-    pub replace-ready : Ready words made
-    replace-ready = subst (λ (n : ℕ). Ready words n) (sym (l .counted)) (holds-ready (l .holds))
-
-    pub replace-length : length words ≡ length before
-    replace-length = holds-length (l .holds)
-
-    pub replace-made : count ≤ made
-    replace-made = let y = grown-longer (l .grown) in omega (arith, l .counted, length-table before count)
-
+  module _ (words : List ℕ) (array : List NodeRow) (kept : ℕ) (got : Got) (i : ℕ) (l : ReplaceLoop q list first standin words array kept got i) where
     pub replace-end : list .count ≤ i
-        → GivesStage before (replacedRows q X (tableOf before count) (those (remainsNode q (tableOf before count)) (rowsIn list))) words (record { full = false; count = made; list = record { count = kept; places = array } })
-    unfolding test
+        → RowsOn (ReplaceSuits list) (λ made. replacedRows q (made .node) (made .table) (those (remainsNode q (made .table)) (rowsIn list))) first standin words
+        (record { count = got .count; list = record { count = kept; places = array } })
     replace-end h =
-        let e : record { table = l .table; rows = l .rows ++ [] } ≡ replacedRows q X (tableOf before count) (those test (rowsIn list)) =
-        ap (ahead (l .rows)) (sym (ap (λ (rows : List NodeRow). replacedRows q X (l .table) rows) (ap (those test) (rows-end k i h) ∙ those-none test) ∙ rows-done q X (l .table))) ∙ l .goal in
-        subst (λ (s : Stage). GivesStage before s words (record { full = false; count = made; list = record { count = kept; places = array } })) e
-        (record { full = λ f. absurd (never (sym f)); holds = λ _. l .holds; counted = λ _. l .counted; listed = λ _. l .listed ∙ ap listOf (sym (append-nil (l .rows))) })
+        record {
+          tidy = record { few = (let s = l .short in let f = l .far in omega (arith, t .few)); whole = l .whole };
+          goes = λ before made g s.
+              subst (λ (rows : List NodeRow). GivesStage before (staysSoFar q made rows) words (record { count = got .count; list = record { count = kept; places = array } })) (rows-all t i h)
+              (l .goes before made g s);
+        }
 
     module _ (h : i < list .count) where
-      pub replace-places : kept < listPlaces
-      replace-places = let s = l .short in omega (arith, rows-few k)
+      pub replace-kept : kept < listPlaces
+      replace-kept = let s = l .short in omega (arith, t .few)
 
-      pub replace-row : getD (list .places) i noRow .node < made
-      replace-row = let x = row-low k i h in omega (arith, replace-made)
+      pub replace-gone : getD (list .places) i noRow .target ≡ q → ReplaceLoop q list first standin words array kept got (i + 1)
+      replace-gone e =
+          record {
+            far = omega arith;
+            same = l .same;
+            short = (let s = l .short in omega arith);
+            whole = l .whole;
+            goes = λ before made g s.
+                subst (λ (stage : Stage). GivesStage before stage words (record { count = got .count; list = record { count = kept; places = array } }))
+                (sym (ap (staysSoFar q made) (rows-more t i h) ∙ stays-gone q made (take i (rowsIn list)) (getD (list .places) i noRow) e)) (l .goes before made g s);
+          }
 
-      module _ (after : List ℕ) (next : Replaced) (x : GivesRow words (replacedRow q X (tableOf words made) (getD (list .places) i noRow)) after next) where
-        left : Stage
-        left = replacedRow q X (l .table) (getD (list .places) i noRow)
+      module _ (n : getD (list .places) i noRow .target ≡ q → ⊥) (after : List ℕ) (next : Got)
+          (x : GoesOn (StaySuits (getD (list .places) i noRow) (standin .node)) (λ made. replacedMade q (standin .node) (made .table) (getD (list .places) i noRow)) words got after next)
+          (new : NodeRow) (en : new ≡ record { node = next .node % 65536; target = getD (list .places) i noRow .target }) where
+        row : NodeRow
+        row = getD (list .places) i noRow
 
-        here : GivesRow words left after next
-        unfolding left
-        here = subst (λ (t : Table). GivesRow words (replacedRow q X t (getD (list .places) i noRow)) after next) (ap (tableOf words) (l .counted) ∙ holds-table (l .holds)) x
+        module _ (before : List ℕ) (made : Made) (g : GivesNode before made first standin) (s : Ready before (length (made .table)) → ReplaceSuits list made) where
+          sofar : Stage
+          sofar = staysSoFar q made (take i (rowsIn list))
 
-        onward : ahead (l .rows) (ahead (left .rows) (replacedRows q X (left .table) (those test (drop (i + 1) (rowsIn list))))) ≡ whole
-        unfolding left test whole
-        onward =
-            ap (ahead (l .rows)) (sym (left-next q X (tableOf before count) (l .table) (getD (list .places) i noRow) (drop (i + 1) (rowsIn list))))
-            ∙ ap (λ (rows : List NodeRow). ahead (l .rows) (replacedRows q X (l .table) (those test rows))) (sym (row-next k i h)) ∙ l .goal
+          grew : Grown (made .table) (sofar .table)
+          unfolding sofar
+          grew = rows-grow q (made .node) (made .table) (those (remainsNode q (made .table)) (take i (rowsIn list)))
 
-        left-longer : length (l .table) ≤ length (left .table)
-        unfolding left
-        left-longer = grown-longer (left-grows q X (l .table) (getD (list .places) i noRow))
+          had : GivesStage before sofar words (record { count = got .count; list = record { count = kept; places = array } })
+          unfolding sofar
+          had = l .goes before made g s
 
-        pub replace-kept : next .full ≡ false → next .kept ≤ 1
-        unfolding left
-        replace-kept f = omega (arith, here .kept f, left-few q X (l .table) (getD (list .places) i noRow))
+          -- the node of this row
+          node : GivesNode before (replacedMade q (made .node) (sofar .table) row) after next
+          unfolding row
+          node =
+              gives-other (made .table) (replacedMade q (standin .node) (sofar .table) row) (replacedMade q (made .node) (sofar .table) row)
+              (λ room. ap (λ (X : ℕ). replacedMade q X (sofar .table) row) (g .done room .node)) (grown-then grew (replaced-grows q (standin .node) (sofar .table) row))
+              (grown-then grew (replaced-grows q (made .node) (sofar .table) row))
+              (x before (already (sofar .table) (got .node))
+              (record { done = λ room. let y = had .done room in record { words = y .words; counted = y .counted; node = refl }; over = had .over })
+              (λ room.
+              let room0 = ready-less room (grown-longer grew) in
+              let ok = s room0 in
+              let a = row-low t (made .table) (ok .1) i h in
+              let b = ok .0 in
+              let c = grown-longer grew in
+              (omega arith, omega (arith, g .done room0 .node))))
 
-        pub replace-next : next .full ≡ false → ReplaceLoop before count q X list after (set array kept (next .row)) (kept + next .kept) (next .count) (i + 1)
-        unfolding left test whole
-        replace-next f =
-            let s = l .short in
-            let n : kept ≡ length (l .rows) = ap (λ (r : Rows). r .count) (l .listed) ∙ list-count (l .rows) in
-            let rest = replacedRows q X (left .table) (those test (drop (i + 1) (rowsIn list))) in
+          more : GivesStage before (withRow q (made .node) row sofar) after (record { count = next .count; list = record { count = kept + 1; places = set array kept new } })
+          unfolding row
+          more =
+              record {
+                done = λ room.
+                    let y = node .done room in
+                    let room1 = ready-less room (grown-longer (replaced-grows q (made .node) (sofar .table) row)) in
+                    let room0 = ready-less room1 (grown-longer grew) in
+                    let ok = s room0 in
+                    let a = row-low t (made .table) (ok .1) i h in
+                    let b = ok .0 in
+                    let c = grown-longer grew in
+                    let low = replaced-low q (made .node) (sofar .table) row (omega arith) (omega arith) in
+                    let few = room .few in
+                    let short = l .short in
+                    record {
+                      words = y .words;
+                      counted = y .counted;
+                      listed =
+                          rows-put array kept new (omega (arith, t .few, l .whole))
+                          ∙ ap₂ (λ (old : List NodeRow) (one : NodeRow). old ++ (one ∷ [])) (had .done room1 .listed)
+                          (en ∙ ap (λ (m : ℕ). record { node = m; target = row .target }) (mod-eq-of-lt (omega (arith, y .node)) ∙ y .node));
+                    };
+                over = node .over;
+              }
+
+        pub replace-more : length after ≡ length words → ReplaceLoop q list first standin after (set array kept new) (kept + 1) next (i + 1)
+        unfolding row sofar
+        replace-more same =
             record {
               far = omega arith;
-              short = (let a = replace-kept f in omega arith);
-              table = left .table;
-              grown = grown-then (l .grown) (left-grows q X (l .table) (getD (list .places) i noRow));
-              holds = holds-then (l .holds) (here .holds f) left-longer;
-              counted = here .counted f;
-              rows = l .rows ++ left .rows;
-              listed =
-                  ap₂ (λ (m : ℕ) (row : NodeRow). record { count = kept + m; places = set array kept row }) (here .kept f) (here .row f)
-                  ∙ left-listed q X (l .table) (getD (list .places) i noRow) (l .rows) kept array (l .listed) (let p = replace-places in omega arith);
-              goal = ap (λ (rows : List NodeRow). record { table = rest .table; rows = rows }) (append-assoc (l .rows) (left .rows) (rest .rows)) ∙ onward;
+              same = same ∙ l .same;
+              short = (let s = l .short in omega arith);
+              whole = length-set array kept new ∙ l .whole;
+              goes = λ before made g s.
+                  subst (λ (stage : Stage). GivesStage before stage after (record { count = next .count; list = record { count = kept + 1; places = set array kept new } }))
+                  (sym (ap (staysSoFar q made) (rows-more t i h) ∙ stays-more q made (take i (rowsIn list)) row n)) (more before made g s);
             }
-
-        pub replace-full : next .full ≡ true → (r : Staged) → r .full ≡ true
-            → GivesStage before (replacedRows q X (tableOf before count) (those (remainsNode q (tableOf before count)) (rowsIn list))) after r
-        unfolding whole
-        replace-full f r e =
-            let longer = subst (λ (s : Stage). length (left .table) ≤ length (s .table)) onward (grown-longer (rows-grow q X (left .table) (those test (drop (i + 1) (rowsIn list))))) in
-            stage-stop (whole .table) whole (large-before (left .table) (whole .table) (l .holds) (here .full f) longer) (omega arith) r e

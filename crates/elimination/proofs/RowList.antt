@@ -1,22 +1,19 @@
 -- The row list as a value: its rows, one after the other.
-use Prim.Native.Nat.{ℕ, _+_, _-_, _<_, _≤_}
+use Prim.Native.Nat.{ℕ, zero, suc, _+_, _<_, _≤_}
 use native.Mathlib.Omega.{arith}
 use native.Mathlib.Numerals.{add-one}
-use native.Mathlib.Nat.{add-zero}
-use mathlib.Core.Path.{_≡_, refl, sym, _∙_, ap, ap₂, subst}
-use mathlib.Core.List.{List, [], _∷_, _++_, append-nil}
-use lib.ListN.{length, getD, set, take, drop, replicate, length-append, drop-of-length-le, getD-replicate}
-use lib.Seq.{drop-cons, getD-take, take-suc, getD-append-add, set-getD}
-use Rattle.ground.specs.Lists.{All, filled}
-use Rattle.ground.proofs.Places.{filled-take, filled-set}
-use Rattle.ground.proofs.Lists.{all-at, all-map}
-use Rattle.expressions.specs.Words.{tableOf}
-use Rattle.expressions.proofs.Words.{length-table}
+use mathlib.Core.Path.{_≡_, refl, sym, _∙_, ap, subst}
+use mathlib.Core.List.{List, [], _∷_, _++_}
+use lib.ListN.{length, getD, set, take, replicate, length-append}
+use lib.Seq.{getD-take, take-suc, take-all, length-take-le}
+use Rattle.ground.specs.Lists.{filled}
+use Rattle.ground.proofs.Places.{filled-length, filled-take, filled-set}
+use Rattle.ground.proofs.Lists.{all-at}
+use Rattle.expressions.specs.Nodes.{Table}
 use Rattle.theory.specs.declared.NodeRow.{NodeRow}
 use Rattle.theory.specs.RowLists.{listPlaces}
-use Rattle.theory.proofs.MirrorRows.{LowRows}
 use Rattle.elimination.specs.declared.rows.Rows.{Rows}
-use Rattle.elimination.specs.Inside.{noRow, rowsIn, listOf, Listed}
+use Rattle.elimination.specs.Inside.{noRow, rowsIn, listOf, Tidy, LowRows}
 
 -- ---- a list of rows as a value, and back
 
@@ -28,51 +25,51 @@ pub list-count : (rows : List NodeRow) → listOf rows .count ≡ length rows
 unfolding listOf
 list-count rows = refl
 
-pub listed-of : (rows : List NodeRow) (count : ℕ) → length rows ≤ listPlaces → All (λ row. row .node < count) rows → Listed (listOf rows) count
-listed-of rows count few low =
-    let e = rows-of-list rows in
-    record { few = rw e few; is = sym (ap listOf e); low = subst (λ (l : List NodeRow). All (λ row. row .node < count) l) (sym e) low }
+pub tidy-of : (rows : List NodeRow) → length rows ≤ listPlaces → Tidy (listOf rows)
+unfolding listOf
+tidy-of rows few = record { few = few; whole = filled-length listPlaces noRow rows few }
 
 -- ---- its rows one after the other
+
+pub low-take : (i : ℕ) (rows : List NodeRow) (table : Table) → LowRows rows table → LowRows (take i rows) table
+low-take zero rows table low = tt
+low-take (suc i) [] table low = tt
+low-take (suc i) (row ∷ rows) table low = (low .0, low-take i rows table (low .1))
 
 here : (list : Rows) (i : ℕ) → i < list .count → getD (rowsIn list) i noRow ≡ getD (list .places) i noRow
 unfolding rowsIn
 here list i h = getD-take (list .count) (list .places) i noRow h
 
-module _ {list : Rows} {count : ℕ} (k : Listed list count) where
+module _ {list : Rows} (t : Tidy list) where
   pub rows-count : list .count ≡ length (rowsIn list)
-  unfolding listOf
-  rows-count = ap (λ (l : Rows). l .count) (k .is)
+  unfolding rowsIn
+  rows-count = sym (length-take-le (list .count) (list .places) (let f = t .few in omega (arith, t .whole)))
 
-  pub rows-few : list .count ≤ listPlaces
-  rows-few = let f = k .few in omega (arith, rows-count)
-
-  pub row-next : (i : ℕ) → i < list .count → drop i (rowsIn list) ≡ getD (list .places) i noRow ∷ drop (i + 1) (rowsIn list)
-  row-next i h =
+  pub row-low : (table : Table) → LowRows (rowsIn list) table → (i : ℕ) → i < list .count → getD (list .places) i noRow .node < length table
+  row-low table low i h =
       let e = rows-count in
-      drop-cons (rowsIn list) i noRow (omega arith) ∙ ap₂ _∷_ (here list i h) (ap (λ (n : ℕ). drop n (rowsIn list)) (sym (add-one i)))
-
-  pub row-low : (i : ℕ) → i < list .count → getD (list .places) i noRow .node < count
-  row-low i h =
-      let e = rows-count in
-      subst (λ (row : NodeRow). row .node < count) (here list i h) (all-at (λ row. row .node < count) (rowsIn list) (k .low) i noRow (omega arith))
+      subst (λ (row : NodeRow). row .node < length table) (here list i h) (all-at (λ row. row .node < length table) (rowsIn list) low i noRow (omega arith))
 
   pub rows-more : (i : ℕ) → i < list .count → take (i + 1) (rowsIn list) ≡ take i (rowsIn list) ++ (getD (list .places) i noRow ∷ [])
   rows-more i h =
       let e = rows-count in
       ap (λ (n : ℕ). take n (rowsIn list)) (add-one i) ∙ take-suc (rowsIn list) i noRow (omega arith) ∙ ap (λ (row : NodeRow). take i (rowsIn list) ++ (row ∷ [])) (here list i h)
 
-  pub rows-end : (i : ℕ) → list .count ≤ i → drop i (rowsIn list) ≡ []
-  rows-end i h = let l : length (rowsIn list) ≤ i = omega (arith, rows-count) in drop-of-length-le (rowsIn list) l
+  pub rows-all : (i : ℕ) → list .count ≤ i → take i (rowsIn list) ≡ rowsIn list
+  rows-all i h = take-all i (rowsIn list) (omega (arith, rows-count))
 
-  -- a list is a list of a larger table too
-  pub listed-on : {more : ℕ} → count ≤ more → Listed list more
-  listed-on l = record { few = k .few; is = k .is; low = all-map (rowsIn list) (λ row h. omega arith) (k .low) }
+-- ---- one row more
 
-  pub listed-low : (words : List ℕ) → LowRows (tableOf words count) (rowsIn list)
-  listed-low words = all-map (rowsIn list) (λ row h. omega (arith, length-table words count)) (k .low)
+-- a row put at the first place past the rows
+take-put : (array : List NodeRow) (kept : ℕ) (row : NodeRow) → kept < length array → take (suc kept) (set array kept row) ≡ take kept array ++ (row ∷ [])
+take-put [] kept row h = absurd (omega arith)
+take-put (first ∷ array) zero row h = refl
+take-put (first ∷ array) (suc kept) row h = ap (first ∷_) (take-put array kept row (omega arith))
 
--- ---- one row more, or none
+pub rows-put : (array : List NodeRow) (kept : ℕ) (row : NodeRow) → kept < length array
+    → rowsIn (record { count = kept + 1; places = set array kept row }) ≡ rowsIn (record { count = kept; places = array }) ++ (row ∷ [])
+unfolding rowsIn
+rows-put array kept row h = ap (λ (n : ℕ). take n (set array kept row)) (add-one kept) ∙ take-put array kept row h
 
 rows-eq : {n n′ : ℕ} {a a′ : List NodeRow} → n ≡ n′ → a ≡ a′ → _≡_ {A = Rows} (record { count = n; places = a }) (record { count = n′; places = a′ })
 rows-eq e f = λ i. record { count = e i; places = f i }
@@ -81,30 +78,10 @@ pub list-none : record { count = 0; places = replicate listPlaces noRow } ≡ li
 unfolding listOf filled
 list-none = refl
 
-module _ (rows : List NodeRow) (kept : ℕ) (array : List NodeRow) (e : record { count = kept; places = array } ≡ listOf rows) (few : length rows < listPlaces) where
-  kept-is : kept ≡ length rows
-  unfolding listOf
-  kept-is = ap (λ (l : Rows). l .count) e
-
-  array-is : array ≡ filled listPlaces noRow rows
-  unfolding listOf
-  array-is = ap (λ (l : Rows). l .places) e
-
-  pub list-more : (row : NodeRow) → record { count = kept + 1; places = set array kept row } ≡ listOf (rows ++ (row ∷ []))
-  unfolding listOf
-  list-more row =
-      let n = kept-is in
-      rows-eq (omega (arith, length-append rows (row ∷ []))) (ap (λ (x : List NodeRow). set x kept row) array-is ∙ filled-set listPlaces noRow rows row kept n few)
-
-  unused-next : getD array kept noRow ≡ noRow
-  unfolding filled
-  unused-next =
-      let n = kept-is in
-      let m = listPlaces - length rows in
-      let z : kept ≡ length rows + 0 = omega arith in
-      ap₂ (λ (a : List NodeRow) (j : ℕ). getD a j noRow) array-is z ∙ getD-append-add rows (replicate m noRow) 0 noRow ∙ getD-replicate m 0 noRow noRow (omega arith)
-
-  -- an unused place left unused
-  pub list-same : record { count = kept + 0; places = set array kept noRow } ≡ listOf (rows ++ [])
-  list-same =
-      rows-eq (add-zero kept) (ap (λ (x : NodeRow). set array kept x) (sym unused-next) ∙ set-getD array kept noRow) ∙ e ∙ ap listOf (sym (append-nil rows))
+pub list-more : (rows : List NodeRow) (kept : ℕ) (array : List NodeRow) → record { count = kept; places = array } ≡ listOf rows → length rows < listPlaces → (row : NodeRow)
+    → record { count = kept + 1; places = set array kept row } ≡ listOf (rows ++ (row ∷ []))
+unfolding listOf
+list-more rows kept array e few row =
+    let n : kept ≡ length rows = ap (λ (l : Rows). l .count) e in
+    let a : array ≡ filled listPlaces noRow rows = ap (λ (l : Rows). l .places) e in
+    rows-eq (omega (arith, length-append rows (row ∷ []))) (ap (λ (x : List NodeRow). set x kept row) a ∙ filled-set listPlaces noRow rows row kept n few)

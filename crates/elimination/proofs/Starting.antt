@@ -1,13 +1,13 @@
--- The start of a conversion, node by node and row by row.
-use Prim.Native.Nat.{ℕ, zero, suc, _+_, _*_, _%_, _<_, _≤_}
+-- The start of a conversion: its nodes, and its rows.
+use Prim.Native.Nat.{ℕ, suc, _+_, _*_, _%_, _<_, _≤_}
 use native.Mathlib.Omega.{arith}
 use native.Mathlib.Numerals.{add-one}
 use native.Mathlib.Nat.{mod-eq-of-lt}
 use mathlib.Core.Path.{_≡_, refl, sym, _∙_, ap, ap₂, subst}
 use mathlib.Core.Bool.{true, false}
 use mathlib.Core.List.{List, [], _∷_, _++_, map, map-append, append-assoc, append-nil}
-use lib.ListN.{length, getD, set, drop, replicate, length-map, drop-of-length-le}
-use lib.Seq.{drop-cons, append-snoc}
+use lib.ListN.{length, getD, set, take, replicate, length-map}
+use lib.Seq.{take-suc, take-all, length-take-le}
 use borrow.Author.Tests.{lt-ltb, le-ltb}
 use Rattle.sets.specs.Members.{has, stateWidth}
 use Rattle.ground.specs.Lists.{All, filled, those}
@@ -20,96 +20,63 @@ use Rattle.automaton.specs.Answers.{placedRow, unusedRow, placed, heldBy}
 use Rattle.automaton.specs.Handed.{Handed}
 use Rattle.expressions.specs.declared.Shape.{Shape}
 use Rattle.expressions.specs.Nodes.{Table, labelOf, emptyShape, holeShape, symbolShape}
-use Rattle.expressions.specs.Words.{nodeWidth, tableOf}
 use Rattle.expressions.specs.Soundness.{Fits}
-use Rattle.expressions.proofs.Words.{length-table}
+use Rattle.expressions.proofs.Making.{empty-fits, hole-fits}
 use Rattle.theory.specs.declared.NodeRow.{NodeRow}
 use Rattle.theory.specs.RowLists.{ascending, listPlaces, finalTarget}
-use Rattle.theory.specs.Stages.{Made, holeAt, holesTable, ruleShape, rulesTable, ruleRows, finalNodeRow, added, withNode}
-use Rattle.theory.proofs.Grows.{grown-longer, with-grows, rules-grow}
-use Rattle.theory.proofs.Turns.{holes-first, holes-next, rules-done, rules-next, ruleRows-next, those-none, those-take, those-skip}
+use Rattle.theory.specs.Stages.{Made, already, holeAt, holesTable, ruleShape, rulesTable, ruleRows, finalNodeRow, added, withNode}
+use Rattle.theory.proofs.Grows.{grown-longer, rules-grow}
+use Rattle.theory.proofs.Turns.{holes-first, holes-next, those-none, those-take, those-skip}
 use Rattle.theory.proofs.Fitting.{rule-fits}
-use Rattle.theory.proofs.StartTable.{with-length, holes-table}
+use Rattle.theory.proofs.Bound.{ruleRows-count}
 use Rattle.elimination.specs.declared.maker.Got.{Got}
 use Rattle.elimination.specs.declared.rows.Rows.{Rows}
-use Rattle.elimination.specs.declared.rows.Staged.{Staged}
-use Rattle.elimination.specs.Inside.{Ready, Holds, GivesNode, GivesStage, noRow, rowsIn, listOf, holesMade, childOf, rowShape, rulesStage, Tidy}
-use Rattle.elimination.proofs.Holding.{never, holds-self, holds-length, holds-table, holds-ready, holds-then, large-before}
-use Rattle.elimination.proofs.Composing.{given, gives-stop, gives-then, stage-stop}
+use Rattle.elimination.specs.Inside.{GivesNode, GivesTable, GoesOn, TableOn, noRow, rowsIn, listOf, Tidy, childOf, rowShape}
+use Rattle.elimination.proofs.Makers.{gives-none}
 use Rattle.elimination.proofs.RowList.{list-none, list-more, list-count}
+
+-- ---- the table alone
+
+gives-table : {before after : List ℕ} {made : Made} {r : Got} → GivesNode before made after r → GivesTable before (made .table) after r
+gives-table x = record { done = λ room. let h = x .done room in record { words = h .words; counted = h .counted; node = refl }; over = x .over }
+
+-- a new node after a table
+table-new : {words after : List ℕ} {last r : Got} (shape : Shape) → GoesOn (λ made. Fits (length (made .table)) shape) (λ made. added (made .table) shape) words last after r
+    → (before : List ℕ) (table : Table) → GivesTable before table words last → Fits (length table) shape → GivesTable before (withNode table shape) after r
+table-new {words} {after} {last} {r} shape x before table g fits = gives-table (x before (already table (last .node)) g (λ _. fits))
 
 -- ---- the empty node and the holes
 
-pub holes-count : (n : ℕ) → n ≤ stateWidth → length (holesTable n) ≡ suc n
-holes-count n h = holes-table n h .count
-
 -- the empty node
-module _ (before : List ℕ) (n : ℕ) (few : n ≤ stateWidth) (w1 : List ℕ) (empty : Got) (g : GivesNode before (added (tableOf before 0) emptyShape) w1 empty) where
-  first-holds : empty .full ≡ false → Holds before (holesTable 0) w1
-  unfolding tableOf
-  first-holds f = rw holes-first (g .holds f)
-
-  pub first-full : empty .full ≡ true → GivesNode before (holesMade n) w1 empty
-  unfolding tableOf
-  first-full f = let c = holes-count n few in gives-stop g f (holesMade n) (omega arith)
-
-  pub first-room : empty .full ≡ false → nodeWidth ≤ length w1
-  first-room f = let h = first-holds f .roomy in let c = holes-count 0 (omega arith) in omega (arith, holds-length (first-holds f))
-
-  pub first-table : empty .full ≡ false → tableOf w1 1 ≡ holesTable 0
-  first-table f = ap (tableOf w1) (sym (holes-count 0 (omega arith))) ∙ holds-table (first-holds f)
-
-  pub first-then : empty .full ≡ false → (w2 : List ℕ) (holes : Got) → GivesNode w1 (holesMade n) w2 holes → GivesNode before (holesMade n) w2 holes
-  first-then f w2 holes x =
-      let c = holes-count 0 (omega arith) in
-      let d = holes-count n few in
-      gives-then (holesMade n) (holesMade n) (first-holds f) x refl (omega arith)
+pub empty-put : (before words : List ℕ) (got : Got)
+    → GoesOn (λ made. Fits (length (made .table)) emptyShape) (λ made. added (made .table) emptyShape) before (record { count = 0; node = 0 }) words got
+    → GivesTable before (holesTable 0) words got
+empty-put before words got x = rw holes-first (table-new emptyShape x before [] (gives-none before) (empty-fits 0))
 
 -- the holes
-pub record HoleLoop (before : List ℕ) (n : ℕ) (words : List ℕ) (got : Got) (q : ℕ) : Type 0 where
+pub record HoleLoop (n : ℕ) (first : List ℕ) (last : Got) (words : List ℕ) (got : Got) (q : ℕ) : Type 0 where
   pub far : q ≤ n
-  pub going : got .full ≡ false
-  pub gives : GivesNode before (holesMade q) words got
+  pub same : length words ≡ length first
+  pub on : (before : List ℕ) → GivesTable before (holesTable 0) first last → GivesTable before (holesTable q) words got
 
-module _ (before : List ℕ) (n : ℕ) (few : n ≤ stateWidth) where
-  pub holes-start : nodeWidth ≤ length before → tableOf before 1 ≡ holesTable 0 → HoleLoop before n before (record { full = false; count = 1; node = 0 }) 0
-  holes-start h e =
-      record {
-        far = omega arith;
-        going = refl;
-        gives =
-            record {
-              full = λ f. absurd (never (sym f));
-              holds = λ _. subst (λ (t : Table). Holds before t before) e (holds-self before 1 (record { few = omega arith; roomy = omega arith }));
-              counted = λ _. sym (holes-count 0 (omega arith));
-              node = λ _. refl;
-            };
-      }
+module _ (n : ℕ) (few : n ≤ stateWidth) (first : List ℕ) (last : Got) where
+  pub holes-start : HoleLoop n first last first last 0
+  holes-start = record { far = omega arith; same = refl; on = λ before g. g }
 
-  module _ (words : List ℕ) (got : Got) (q : ℕ) (l : HoleLoop before n words got q) where
-    pub holes-ready : Ready words (got .count)
-    holes-ready = given (l .gives) (l .going) .ready
+  module _ (words : List ℕ) (got : Got) (q : ℕ) (l : HoleLoop n first last words got q) where
+    pub holes-end : n ≤ q → (before : List ℕ) → GivesTable before (holesTable 0) first last → GivesTable before (holesTable n) words got
+    holes-end h before g = let f = l .far in let e : q ≡ n = omega arith in subst (λ (m : ℕ). GivesTable before (holesTable m) words got) e (l .on before g)
 
-    pub holes-length : length words ≡ length before
-    holes-length = holds-length (l .gives .holds (l .going))
-
-    pub holes-end : n ≤ q → GivesNode before (holesMade n) words got
-    holes-end h = let f = l .far in let e : q ≡ n = omega arith in subst (λ (m : ℕ). GivesNode before (holesMade m) words got) e (l .gives)
-
-    module _ (h : q < n) (shape : Shape) (es : shape ≡ holeShape q) (after : List ℕ) (next : Got) (x : GivesNode words (added (tableOf words (got .count)) shape) after next) where
-      onward : GivesNode before (holesMade (q + 1)) after next
-      onward =
-          let y = given (l .gives) (l .going) in
-          let c = holes-count q (omega arith) in
-          let d = holes-count (q + 1) (omega arith) in
-          let e : added (holesTable q) (holeShape q) ≡ holesMade (q + 1) = ap₂ (λ (t : Table) (m : ℕ). record { table = t; node = m }) (sym (holes-next q) ∙ ap holesTable (sym (add-one q))) (c ∙ sym (add-one q)) in
-          gives-then (added (tableOf words (got .count)) shape) (holesMade (q + 1)) (y .holds) x (ap₂ added (y .table) es ∙ e) (omega arith)
-
-      pub holes-more : next .full ≡ false → HoleLoop before n after next (q + 1)
-      holes-more f = record { far = omega arith; going = f; gives = onward }
-
-      pub holes-full : next .full ≡ true → GivesNode before (holesMade n) after next
-      holes-full f = let c = holes-count n few in let d = holes-count (q + 1) (omega arith) in gives-stop onward f (holesMade n) (omega arith)
+    pub holes-more : q < n → (after : List ℕ) (next : Got) → length after ≡ length words
+        → GoesOn (λ made. Fits (length (made .table)) (holeShape q)) (λ made. added (made .table) (holeShape q)) words got after next → HoleLoop n first last after next (q + 1)
+    holes-more h after next same x =
+        record {
+          far = omega arith;
+          same = same ∙ l .same;
+          on = λ before g.
+              subst (λ (t : Table). GivesTable before t after next) (sym (holes-next q) ∙ ap holesTable (sym (add-one q)))
+              (table-new (holeShape q) x before (holesTable q) (l .on before g) (hole-fits (length (holesTable q)) q (omega arith)));
+        }
 
 -- ---- the shape of a rule's node
 
@@ -134,16 +101,16 @@ shape-is rule h = go (rule .sources) h
 
 pub row-shape : (row : Row) (arity symbol a b c : ℕ) → symbol ≡ row .symbol → a ≡ childOf 0 arity (getD (row .sources) 0 0) → b ≡ childOf 1 arity (getD (row .sources) 1 0) → c ≡ childOf 2 arity (getD (row .sources) 2 0)
     → symbolShape (symbol + 256 * arity) a b c ≡ rowShape row arity
-unfolding rowShape
+unfolding rowShape labelOf
 row-shape row arity symbol a b c e f g h = λ i. symbolShape (e i + 256 * arity) (f i) (g i) (h i)
 
 -- ---- what a value's places are
 
-abbrev pub noRule : Rule
+-- what stands for a rule, and for a row, past the last
+abbrev noRule : Rule
 noRule = record { symbol = 0; target = 0; sources = [] }
 
--- what stands for a row past the places
-abbrev pub pastRow : Row
+abbrev pastRow : Row
 pastRow = record { symbol = 0; target = 0; sources = [] }
 
 module _ (value : Automaton) (handed : Handed value) where
@@ -167,15 +134,15 @@ module _ (value : Automaton) (handed : Handed value) where
   unfolding placed
   arities-same = ap (λ (v : Automaton). v .arities) (handed .is)
 
+  -- rule i, and the row that the code reads for it
   module _ (n i : ℕ) (en : n ≡ value .count) (h : i < n) where
-    -- rule i, and the row that the code reads for it
     rule : Rule
     rule = getD (heldBy value .rules) i noRule
 
     row : Row
     row = getD (value .rows) i pastRow
 
-    pub rule-in : i < length (heldBy value .rules)
+    rule-in : i < length (heldBy value .rules)
     rule-in = omega (arith, rules-count)
 
     pub rule-place : i < 64
@@ -197,8 +164,8 @@ module _ (value : Automaton) (handed : Handed value) where
     unfolding placedRow
     symbol-is = ap (λ (r : Row). r .symbol) row-is
 
-    pub target-is : getD (value .rows) i pastRow .target ≡ getD (heldBy value .rules) i noRule .target
-    unfolding placedRow row rule
+    target-is : row .target ≡ rule .target
+    unfolding placedRow
     target-is = ap (λ (r : Row). r .target) row-is
 
     arity-is : getD (value .arities) (row .symbol) 0 ≡ length (rule .sources)
@@ -218,116 +185,111 @@ module _ (value : Automaton) (handed : Handed value) where
     unfolding row
     rule-arity = let a = sources-few in omega (arith, arity-is)
 
-    module _ (shape : Shape) (es : shape ≡ rowShape (getD (value .rows) i pastRow) (getD (value .arities) (getD (value .rows) i pastRow .symbol) 0)) where
-      pub rule-shape : shape ≡ ruleShape (getD (heldBy value .rules) i noRule)
-      unfolding row rule
-      rule-shape = es ∙ ap₂ rowShape row-is arity-is ∙ shape-is rule sources-few
+    rule-fit : (number : ℕ) → heldBy value .states < number → Fits number (ruleShape rule)
+    rule-fit number m =
+        rule-fits number rule (let a = rule-valid .known in let b = handed .valid .few-symbols in omega arith) sources-few (holes (rule .sources) (rule-valid .sourced))
+      where
+        holes : (qs : List ℕ) → All (λ q. q < heldBy value .states) qs → All (λ c. c < number) (map holeAt qs)
+        holes [] a = tt
+        holes (q ∷ qs) a = ((let b = a .0 in omega arith), holes qs (a .1))
 
-      pub rule-fit : (made : ℕ) → heldBy value .states < made → Fits made shape
-      unfolding rule
-      rule-fit made m =
-          rw rule-shape
-          (rule-fits made rule (let a = rule-valid .known in let b = handed .valid .few-symbols in omega arith) sources-few (holes (rule .sources) (rule-valid .sourced)))
-        where
-          holes : (qs : List ℕ) → All (λ q. q < heldBy value .states) qs → All (λ c. c < made) (map holeAt qs)
-          holes [] a = tt
-          holes (q ∷ qs) a = ((let b = a .0 in omega arith), holes qs (a .1))
+    rules-more : take (i + 1) (heldBy value .rules) ≡ take i (heldBy value .rules) ++ (rule ∷ [])
+    unfolding rule
+    rules-more = ap (λ (m : ℕ). take m (heldBy value .rules)) (add-one i) ∙ take-suc (heldBy value .rules) i noRule rule-in
 
 -- ---- the nodes of the rules
 
-pub record RuleLoop (before : List ℕ) (count : ℕ) (rules : List Rule) (words : List ℕ) (array : List NodeRow) (made i : ℕ) : Type 0 where
-  pub far : i ≤ length rules
-  pub table : Table
-  pub holds : Holds before table words
-  pub counted : made ≡ length table
-  pub onward : count ≤ made
-  pub rows : List NodeRow
-  pub listed : record { count = i; places = array } ≡ listOf rows
-  pub tables : rulesTable table (drop i rules) ≡ rulesTable (tableOf before count) rules
-  pub lists : rows ++ ruleRows made (drop i rules) ≡ ruleRows count rules
+rules-snoc : (table : Table) (rules : List Rule) (rule : Rule) → rulesTable table (rules ++ (rule ∷ [])) ≡ withNode (rulesTable table rules) (ruleShape rule)
+unfolding rulesTable
+rules-snoc table [] rule = refl
+rules-snoc table (first ∷ rules) rule = rules-snoc (withNode table (ruleShape first)) rules rule
 
-module _ (before : List ℕ) (count : ℕ) (rules : List Rule) where
-  pub rules-start : Ready before count → RuleLoop before count rules before (replicate listPlaces noRow) count 0
-  rules-start r =
-      record {
-        far = omega arith;
-        table = tableOf before count;
-        holds = holds-self before count r;
-        counted = sym (length-table before count);
-        onward = omega arith;
-        rows = [];
-        listed = list-none;
-        tables = refl;
-        lists = refl;
-      }
+abbrev RuleSuits : Automaton → Table → Type 0
+RuleSuits value table = heldBy value .states < length table
 
-  module _ (words : List ℕ) (array : List NodeRow) (made i : ℕ) (l : RuleLoop before count rules words array made i) where
-    pub rules-ready : Ready words made
-    rules-ready = subst (λ (n : ℕ). Ready words n) (sym (l .counted)) (holds-ready (l .holds))
+pub record RuleLoop (value : Automaton) (first : List ℕ) (last : Got) (words : List ℕ) (got : Got) (i : ℕ) : Type 0 where
+  pub far : i ≤ length (heldBy value .rules)
+  pub same : length words ≡ length first
+  pub on : TableOn (RuleSuits value) (λ table. rulesTable table (take i (heldBy value .rules))) first last words got
 
-    pub rules-length : length words ≡ length before
-    rules-length = holds-length (l .holds)
+module _ (value : Automaton) (handed : Handed value) (first : List ℕ) (last : Got) where
+  pub rules-start : RuleLoop value first last first last 0
+  unfolding rulesTable
+  rules-start = record { far = omega arith; same = refl; on = λ before table g s. g }
 
-    pub rules-end : (n : ℕ) → n ≡ length rules → n ≤ i → GivesStage before (rulesStage (tableOf before count) count rules) words (record { full = false; count = made; list = record { count = n; places = array } })
-    unfolding ruleRows
-    rules-end n e h =
-        let f = l .far in
-        let j : i ≡ n = omega arith in
-        let d : drop i rules ≡ [] = drop-of-length-le rules (let k : length rules ≤ i = omega arith in k) in
-        let t : l .table ≡ rulesTable (tableOf before count) rules = sym (rules-done (l .table)) ∙ ap (rulesTable (l .table)) (sym d) ∙ l .tables in
-        let r : l .rows ≡ ruleRows count rules = sym (append-nil (l .rows)) ∙ ap (λ (rs : List Rule). l .rows ++ ruleRows made rs) (sym d) ∙ l .lists in
+  module _ (n : ℕ) (en : n ≡ value .count) (words : List ℕ) (got : Got) (i : ℕ) (l : RuleLoop value first last words got i) where
+    pub rules-end : n ≤ i → TableOn (RuleSuits value) (λ table. rulesTable table (heldBy value .rules)) first last words got
+    rules-end h before table g s =
+        subst (λ (rules : List Rule). GivesTable before (rulesTable table rules) words got) (take-all i (heldBy value .rules) (omega (arith, rules-count value handed))) (l .on before table g s)
+
+    pub rules-next : (h : i < n) → (shape : Shape) → shape ≡ rowShape (getD (value .rows) i pastRow) (getD (value .arities) (getD (value .rows) i pastRow .symbol) 0) → (after : List ℕ) (next : Got) → length after ≡ length words
+        → GoesOn (λ made. Fits (length (made .table)) shape) (λ made. added (made .table) shape) words got after next → RuleLoop value first last after next (i + 1)
+    unfolding rule row
+    rules-next h shape es after next same x =
+        let one = rule value handed n i en h in
+        let e : shape ≡ ruleShape one = es ∙ ap₂ rowShape (row-is value handed n i en h) (arity-is value handed n i en h) ∙ shape-is one (sources-few value handed n i en h) in
         record {
-          full = λ f. absurd (never (sym f));
-          holds = λ _. subst (λ (t : Table). Holds before t words) t (l .holds);
-          counted = λ _. l .counted ∙ ap length t;
-          listed = λ _. ap (λ (m : ℕ). record { count = m; places = array }) (sym j) ∙ l .listed ∙ ap listOf r;
+          far = (let r = rule-in value handed n i en h in omega arith);
+          same = same ∙ l .same;
+          on = λ before table g s.
+              let made = rulesTable table (take i (heldBy value .rules)) in
+              let longer = grown-longer (rules-grow table (take i (heldBy value .rules))) in
+              subst (λ (t : Table). GivesTable before t after next)
+              (ap (withNode made) e ∙ sym (ap (rulesTable table) (rules-more value handed n i en h) ∙ rules-snoc table (take i (heldBy value .rules)) one))
+              (table-new shape x before made (l .on before table g s) (rw e (rule-fit value handed n i en h (length made) (omega arith))));
         }
 
-    module _ (h : i < length rules) (shape : Shape) (es : shape ≡ ruleShape (getD rules i noRule)) (after : List ℕ) (next : Got) (x : GivesNode words (added (tableOf words made) shape) after next) where
-      here : GivesNode words (added (l .table) (ruleShape (getD rules i noRule))) after next
-      here = subst (λ (m : Made). GivesNode words m after next) (ap₂ added (ap (tableOf words) (l .counted) ∙ holds-table (l .holds)) es) x
+-- ---- the rows of the rules
 
-      rest : drop i rules ≡ getD rules i noRule ∷ drop (i + 1) rules
-      rest = drop-cons rules i noRule h ∙ ap (λ (n : ℕ). getD rules i noRule ∷ drop n rules) (sym (add-one i))
+ruleRows-snoc : (number : ℕ) (rules : List Rule) (rule : Rule) → ruleRows number (rules ++ (rule ∷ [])) ≡ ruleRows number rules ++ (record { node = number + length rules; target = rule .target } ∷ [])
+unfolding ruleRows
+ruleRows-snoc number [] rule = let e : number ≡ number + 0 = omega arith in ap (λ (m : ℕ). record { node = m; target = rule .target } ∷ []) e
+ruleRows-snoc number (first ∷ rules) rule =
+    let e : suc number + length rules ≡ number + suc (length rules) = omega arith in
+    ap (record { node = number; target = first .target } ∷_)
+    (ruleRows-snoc (suc number) rules rule ∙ ap (λ (m : ℕ). ruleRows (suc number) rules ++ (record { node = m; target = rule .target } ∷ [])) e)
 
-      tables′ : rulesTable (withNode (l .table) (ruleShape (getD rules i noRule))) (drop (i + 1) rules) ≡ rulesTable (tableOf before count) rules
-      tables′ = sym (rules-next (l .table) (getD rules i noRule) (drop (i + 1) rules)) ∙ ap (rulesTable (l .table)) (sym rest) ∙ l .tables
+pub record RuleRowLoop (value : Automaton) (array : List NodeRow) (node i : ℕ) : Type 0 where
+  pub far : i ≤ length (heldBy value .rules)
+  pub numbered : node ≡ heldBy value .states + i
+  pub listed : record { count = i; places = array } ≡ listOf (ruleRows (suc (heldBy value .states)) (take i (heldBy value .rules)))
 
-      pub rules-full : next .full ≡ true → (r : Staged) → r .full ≡ true → GivesStage before (rulesStage (tableOf before count) count rules) after r
-      rules-full f r e =
-          let grew = withNode (l .table) (ruleShape (getD rules i noRule)) in
-          let all = rulesTable (tableOf before count) rules in
-          let g = grown-longer (rules-grow grew (drop (i + 1) rules)) in
-          let z = ap length tables′ in
-          stage-stop all (rulesStage (tableOf before count) count rules) (large-before grew all (l .holds) (here .full f) (omega arith)) (omega arith) r e
+module _ (value : Automaton) (handed : Handed value) (n : ℕ) (en : n ≡ value .count) where
+  pub rows-start : (node : ℕ) → node ≡ value .states → RuleRowLoop value (replicate listPlaces noRow) node 0
+  unfolding ruleRows
+  rows-start node e = record { far = omega arith; numbered = (let s = states-same value handed in omega arith); listed = list-none }
 
-      pub rules-more : i < 64 → (target : ℕ) → target ≡ getD rules i noRule .target → (row : NodeRow) → row ≡ record { node = next .node % 65536; target = target } → next .full ≡ false
-          → RuleLoop before count rules after (set array i row) (next .count) (i + 1)
-      rules-more most target et row er f =
-          let rule = getD rules i noRule in
-          let y = given here f in
-          let w = with-length (l .table) (ruleShape rule) in
-          let c : next .count ≡ suc made = omega (arith, y .counted, l .counted) in
-          let b = y .holds .few in
-          let nd : next .node ≡ made = y .node ∙ sym (l .counted) in
-          let new : row ≡ record { node = made; target = rule .target } = er ∙ ap₂ (λ (m t : ℕ). record { node = m; target = t }) (mod-eq-of-lt (omega (arith, y .node)) ∙ nd) et in
-          let n : i ≡ length (l .rows) = ap (λ (r : Rows). r .count) (l .listed) ∙ list-count (l .rows) in
-          record {
-            far = omega arith;
-            table = withNode (l .table) (ruleShape rule);
-            holds = holds-then (l .holds) (y .holds) (grown-longer (with-grows (l .table) (ruleShape rule)));
-            counted = y .counted;
-            onward = (let o = l .onward in omega arith);
-            rows = l .rows ++ (row ∷ []);
-            listed = list-more (l .rows) i array (l .listed) (omega arith) row;
-            tables = tables′;
-            lists =
-                append-snoc (l .rows) row (ruleRows (next .count) (drop (i + 1) rules))
-                ∙ ap₂ (λ (r : NodeRow) (m : ℕ). l .rows ++ (r ∷ ruleRows m (drop (i + 1) rules))) new c
-                ∙ ap (λ (r : List NodeRow). l .rows ++ r) (sym (ruleRows-next made rule (drop (i + 1) rules)))
-                ∙ ap (λ (r : List Rule). l .rows ++ ruleRows made r) (sym rest)
-                ∙ l .lists;
-          }
+  module _ (array : List NodeRow) (node i : ℕ) (l : RuleRowLoop value array node i) where
+    pub rows-end : n ≤ i → record { count = n; places = array } ≡ listOf (ruleRows (suc (heldBy value .states)) (heldBy value .rules))
+    rows-end h =
+        let f = l .far in
+        let j : n ≡ i = omega (arith, rules-count value handed) in
+        ap (λ (m : ℕ). record { count = m; places = array }) j ∙ l .listed
+        ∙ ap (λ (rules : List Rule). listOf (ruleRows (suc (heldBy value .states)) rules)) (take-all i (heldBy value .rules) (omega (arith, rules-count value handed)))
+
+    pub rows-low : i < n → node < 65535
+    rows-low h = let a = l .numbered in let b = rule-place value handed n i en h in let c = handed .valid .few-states in omega arith
+
+    pub rows-next : (h : i < n) → (new : NodeRow) → new ≡ record { node = (node + 1) % 65536; target = getD (value .rows) i pastRow .target } → RuleRowLoop value (set array i new) (node + 1) (i + 1)
+    unfolding rule row
+    rows-next h new e =
+        let one = rule value handed n i en h in
+        let so = take i (heldBy value .rules) in
+        let low = rows-low h in
+        let a = l .numbered in
+        let r = rule-in value handed n i en h in
+        let lt = length-take-le i (heldBy value .rules) (omega arith) in
+        let few = rule-place value handed n i en h in
+        let is : new ≡ record { node = suc (heldBy value .states) + length so; target = one .target } =
+        e ∙ ap₂ (λ (m t : ℕ). record { node = m; target = t }) (mod-eq-of-lt (omega arith) ∙ (let z : node + 1 ≡ suc (heldBy value .states) + length so = omega arith in z)) (target-is value handed n i en h) in
+        record {
+          far = omega arith;
+          numbered = omega arith;
+          listed =
+              list-more (ruleRows (suc (heldBy value .states)) so) i array (l .listed) (omega (arith, ruleRows-count (suc (heldBy value .states)) so)) new
+              ∙ ap (λ (x : NodeRow). listOf (ruleRows (suc (heldBy value .states)) so ++ (x ∷ []))) is
+              ∙ ap listOf (sym (ap (ruleRows (suc (heldBy value .states))) (rules-more value handed n i en h) ∙ ruleRows-snoc (suc (heldBy value .states)) so one));
+        }
 
 -- ---- the rows of the final states
 
@@ -339,15 +301,15 @@ pub record FinalLoop (rows : List NodeRow) (finals n : ℕ) (array : List NodeRo
   pub few : count + stateWidth ≤ listPlaces + q
   pub is : record { count = count; places = array } ≡ listOf (withFinals rows finals q)
 
-module _ (list : Rows) (finals n : ℕ) (t : Tidy list) where
-  pub finals-start : FinalLoop (rowsIn list) finals n (list .places) (list .count) 0
+module _ (list : Rows) (finals n : ℕ) (t : list ≡ listOf (rowsIn list)) where
+  pub finals-start : length (rowsIn list) + stateWidth ≤ listPlaces → FinalLoop (rowsIn list) finals n (list .places) (list .count) 0
   unfolding ascending
-  finals-start =
-      let e = ap (λ (r : Rows). r .count) (t .is) ∙ list-count (rowsIn list) in
+  finals-start f =
+      let e = ap (λ (r : Rows). r .count) t ∙ list-count (rowsIn list) in
       record {
         far = omega arith;
-        few = (let f = t .few in omega arith);
-        is = t .is ∙ ap listOf (sym (append-nil (rowsIn list)) ∙ ap (λ (qs : List ℕ). rowsIn list ++ map finalNodeRow qs) (sym (those-none (has finals))));
+        few = omega arith;
+        is = t ∙ ap listOf (sym (append-nil (rowsIn list)) ∙ ap (λ (qs : List ℕ). rowsIn list ++ map finalNodeRow qs) (sym (those-none (has finals))));
       }
 
   module _ (array : List NodeRow) (count q : ℕ) (l : FinalLoop (rowsIn list) finals n array count q) where

@@ -13,6 +13,9 @@ mod rows;
 mod start;
 mod step;
 
+// The places of the row list: one for each row that a file may have, and one for each state.
+pub const LIST_PLACES: usize = automaton::ROW_PLACES + automaton::MOST_STATES as usize;
+
 // A row of a partial conversion's list: its node, its target, and how many different states it still waits for.
 #[repr(C)]
 pub struct ListRow {
@@ -27,7 +30,7 @@ pub struct Partly {
     pub refusal: Refusal,
     pub nodes: usize,
     pub rows: usize,
-    pub list: [ListRow; 80],
+    pub list: [ListRow; LIST_PLACES],
 }
 
 // What `convert` answers: the number of nodes, and the answer's node.
@@ -39,7 +42,7 @@ pub struct Wholly {
 }
 
 // The automaton after its first k states are taken out.
-fn partly_of(value: Automaton, k: u32, nodes: &mut [u32]) -> Partly
+fn partly_of(nodes: &mut [u32], value: Automaton, k: u32) -> Partly
     requires { ⌜ Handed value ⌝ }
     ensures { λ r. ⌜ PartlyOf (heldBy value) k (now (nodes .entry)) (now (nodes .exit)) r ⌝ }
 {
@@ -55,16 +58,14 @@ pub fn convert_partly(file: &[u8], k: u32, nodes: &mut [u32]) -> Partly
     ensures { λ r. ⌜ PartlyAnswered (now (file .entry)) k (now (nodes .entry)) (now (nodes .exit)) r ⌝ }
 {
     let reading = automaton::read(file);
-    let refusal = reading.refusal;
-    if refusal.number != 0 {
-        return report::refused_partly(refusal);
+    if reading.refusal.number != 0 {
+        return report::refused_partly(reading.refusal);
     }
-    let value = reading.automaton;
-    partly_of(value, k, nodes)
+    partly_of(nodes, reading.automaton, k)
 }
 
 // The expression of the automaton.
-fn wholly_of(value: Automaton, nodes: &mut [u32]) -> Wholly
+fn wholly_of(nodes: &mut [u32], value: Automaton) -> Wholly
     requires { ⌜ Handed value ⌝ }
     ensures { λ r. ⌜ WhollyOf (heldBy value) (now (nodes .entry)) (now (nodes .exit)) r ⌝ }
 {
@@ -77,10 +78,8 @@ pub fn convert(file: &[u8], nodes: &mut [u32]) -> Wholly
     ensures { λ r. ⌜ WhollyAnswered (now (file .entry)) (now (nodes .entry)) (now (nodes .exit)) r ⌝ }
 {
     let reading = automaton::read(file);
-    let refusal = reading.refusal;
-    if refusal.number != 0 {
-        return report::refused_whole(refusal);
+    if reading.refusal.number != 0 {
+        return report::refused_whole(reading.refusal);
     }
-    let value = reading.automaton;
-    wholly_of(value, nodes)
+    wholly_of(nodes, reading.automaton)
 }

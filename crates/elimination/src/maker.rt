@@ -1,20 +1,23 @@
-// Making a node on the lent words, by the rules that spare one.
+// Making nodes on the lent words, by the rules that spare some. A maker goes on from what another gave; once there was no room, there is none:
+// the number that says so is more than a table may have, and no node is put after so many.
 ghost use mathlib.Core.Path.{_≡_};
 ghost use mathlib.Core.Bool.{_&&_};
 ghost use Prim.Native.Nat.{_<_};
 ghost use lib.Dec.{eqb};
+ghost use lib.ListN.{length};
 ghost use Rattle.sets.specs.Members.{size, stateWidth};
-ghost use Rattle.expressions.specs.Words.{nodeIn, tableOf};
+ghost use Rattle.expressions.specs.Words.{nodeIn};
 ghost use Rattle.expressions.specs.Soundness.{Fits};
 ghost use Rattle.theory.specs.Stages.{added, altMade, catMade, iterMade};
-ghost use Rattle.elimination.specs.Inside.{Ready, GivesNode, openIn};
-use expressions::Shape;
+ghost use Rattle.elimination.specs.Inside.{GoesOn, openIn};
 use sets::StateSet;
 
-// What a maker answers: whether there was no room, else the number of nodes and the node asked for.
+// The number of nodes that says that there was no room.
+const NO_ROOM: u32 = expressions::MOST_NODES as u32 + 1;
+
+// What a maker answers: the number of nodes, or that there was no room, and the node asked for.
 pub struct Got {
-    pub full: bool,
-    pub count: usize,
+    pub count: u32,
     pub node: u32,
 }
 
@@ -50,103 +53,79 @@ fn is_hole(words: &[u32], node: u32, q: u32) -> bool
     false
 }
 
-// The next node, where there is room.
-pub fn new_node(words: &mut [u32], count: usize, shape: Shape) -> Got
-    requires { ⌜ Ready (now words) count ⌝ }
-    requires { ⌜ Fits count shape ⌝ }
-    ensures { λ r. ⌜ GivesNode (now (words .entry)) (added (tableOf (now (words .entry)) count) shape) (now (words .exit)) r ⌝ }
+// A new node.
+pub fn new_node(
+    words: &mut [u32],
+    last: Got,
+    kind: u32,
+    label: u32,
+    first: u32,
+    second: u32,
+    third: u32,
+) -> Got
+    ensures { λ r. ⌜ GoesOn (λ made. Fits (length (made .table)) (record { kind = kind; label = label; first = first; second = second; third = third })) (λ made. added (made .table) (record { kind = kind; label = label; first = first; second = second; third = third })) (now (words .entry)) last (now (words .exit)) r ⌝ }
 {
-    let answer = expressions::make(words, count, shape);
+    let answer = expressions::make(
+        words,
+        last.count as usize,
+        kind,
+        label,
+        first,
+        second,
+        third,
+    );
     if answer.number == 0 {
         return Got {
-            full: false,
-            count: count + 1,
-            node: count as u32,
+            count: last.count + 1,
+            node: last.count,
         };
     }
     Got {
-        full: true,
-        count: 0,
+        count: NO_ROOM,
         node: 0,
     }
 }
 
 // The alternation; with an empty side, the other side.
-pub fn make_alt(words: &mut [u32], count: usize, left: u32, right: u32) -> Got
-    requires { ⌜ Ready (now words) count ⌝ }
-    requires { ⌜ left < count ⌝ }
-    requires { ⌜ right < count ⌝ }
-    ensures { λ r. ⌜ GivesNode (now (words .entry)) (altMade (tableOf (now (words .entry)) count) left right) (now (words .exit)) r ⌝ }
+pub fn make_alt(words: &mut [u32], left: Got, right: u32) -> Got
+    ensures { λ r. ⌜ GoesOn (λ made. (made .node < length (made .table)) × (right < length (made .table))) (λ made. altMade (made .table) (made .node) right) (now (words .entry)) left (now (words .exit)) r ⌝ }
 {
-    if is_empty(&words[..], left) {
+    if is_empty(&words[..], left.node) {
         return Got {
-            full: false,
-            count,
+            count: left.count,
             node: right,
         };
     }
     if is_empty(&words[..], right) {
-        return Got {
-            full: false,
-            count,
-            node: left,
-        };
+        return left;
     }
-    let shape = Shape {
-        kind: 3,
-        label: 0,
-        first: left,
-        second: right,
-        third: 0,
-    };
-    new_node(words, count, shape)
+    new_node(words, left, 3, 0, left.node, right, 0)
 }
 
 // The concatenation over q; with hole q on the left, the right.
-pub fn make_cat(words: &mut [u32], count: usize, q: u32, left: u32, right: u32) -> Got
-    requires { ⌜ Ready (now words) count ⌝ }
+pub fn make_cat(words: &mut [u32], last: Got, q: u32, left: u32, right: u32) -> Got
     requires { ⌜ q < stateWidth ⌝ }
-    requires { ⌜ left < count ⌝ }
-    requires { ⌜ right < count ⌝ }
-    ensures { λ r. ⌜ GivesNode (now (words .entry)) (catMade q (tableOf (now (words .entry)) count) left right) (now (words .exit)) r ⌝ }
+    ensures { λ r. ⌜ GoesOn (λ made. (left < length (made .table)) × (right < length (made .table))) (λ made. catMade q (made .table) left right) (now (words .entry)) last (now (words .exit)) r ⌝ }
 {
     if is_hole(&words[..], left, q) {
         return Got {
-            full: false,
-            count,
+            count: last.count,
             node: right,
         };
     }
-    let shape = Shape {
-        kind: 4,
-        label: q,
-        first: left,
-        second: right,
-        third: 0,
-    };
-    new_node(words, count, shape)
+    new_node(words, last, 4, q, left, right, 0)
 }
 
 // The iteration over q; of the empty node, hole q.
-pub fn make_iter(words: &mut [u32], count: usize, q: u32, child: u32) -> Got
-    requires { ⌜ Ready (now words) count ⌝ }
+pub fn make_iter(words: &mut [u32], child: Got, q: u32) -> Got
     requires { ⌜ q < stateWidth ⌝ }
-    requires { ⌜ child < count ⌝ }
-    ensures { λ r. ⌜ GivesNode (now (words .entry)) (iterMade q (tableOf (now (words .entry)) count) child) (now (words .exit)) r ⌝ }
+    ensures { λ r. ⌜ GoesOn (λ made. made .node < length (made .table)) (λ made. iterMade q (made .table) (made .node)) (now (words .entry)) child (now (words .exit)) r ⌝ }
 {
-    if is_empty(&words[..], child) {
+    if is_empty(&words[..], child.node) {
         return Got {
-            full: false,
-            count,
+            count: child.count,
             node: q + 1,
         };
     }
-    let shape = Shape {
-        kind: 5,
-        label: q,
-        first: child,
-        second: 0,
-        third: 0,
-    };
-    new_node(words, count, shape)
+    new_node(words, child, 5, q, child.node, 0, 0)
 }

@@ -1,11 +1,10 @@
 // What a conversion reports: a refusal, a stop's list with what each row waits for, or an answer. Where there was no room, every word is 0.
 ghost use mathlib.Core.Path.{_≡_};
-ghost use mathlib.Core.Bool.{false};
 ghost use lib.ListN.{replicate};
-ghost use Rattle.expressions.specs.Words.{nodeIn};
 ghost use Rattle.theory.specs.RowLists.{listPlaces};
-ghost use Rattle.elimination.specs.Answers.{unusedPlace, listOfRows, refusedPartly, refusedWhole};
-ghost use Rattle.elimination.specs.Inside.{Ready, Listed, Stands, stageIn, reportedRow, ReportsStop, ReportsAnswer};
+ghost use Rattle.elimination.specs.Answers.{unusedPlace, refusedPartly, refusedWhole};
+ghost use Rattle.elimination.specs.Inside.{Tidy, reportedRow, reportedRows, ReportsStop, ReportsAnswer};
+use crate::LIST_PLACES;
 use crate::ListRow;
 use crate::Partly;
 use crate::Wholly;
@@ -15,6 +14,7 @@ use crate::rows;
 use crate::rows::Rows;
 use crate::rows::Staged;
 use automaton::Refusal;
+use expressions::MOST_NODES;
 use theory::NodeRow;
 
 const UNUSED: ListRow = ListRow {
@@ -24,10 +24,10 @@ const UNUSED: ListRow = ListRow {
 };
 
 // Every place unused.
-fn no_rows() -> [ListRow; 80]
+fn no_rows() -> [ListRow; LIST_PLACES]
     ensures { λ r. ⌜ r ≡ replicate listPlaces unusedPlace ⌝ }
 {
-    [UNUSED; 80]
+    [UNUSED; LIST_PLACES]
 }
 
 // A partial conversion that is refused.
@@ -56,7 +56,7 @@ pub fn refused_whole(refusal: Refusal) -> Wholly
 
 // A row with its waiting number.
 fn list_row(words: &[u32], row: NodeRow) -> ListRow
-    ensures { λ r. ⌜ r ≡ reportedRow (nodeIn (now (words .entry)) (row .node)) row ⌝ }
+    ensures { λ r. ⌜ r ≡ reportedRow (now (words .entry)) row ⌝ }
 {
     let node = row.node;
     let target = row.target;
@@ -69,10 +69,9 @@ fn list_row(words: &[u32], row: NodeRow) -> ListRow
 }
 
 // The list, with the waiting number of each row.
-fn list_rows(words: &[u32], count: usize, list: Rows) -> [ListRow; 80]
-    requires { ⌜ Ready (now words) count ⌝ }
-    requires { ⌜ Listed list count ⌝ }
-    ensures { λ r. ⌜ r ≡ listOfRows (stageIn (now (words .entry)) count list) ⌝ }
+fn list_rows(words: &[u32], list: Rows) -> [ListRow; LIST_PLACES]
+    requires { ⌜ Tidy list ⌝ }
+    ensures { λ r. ⌜ r ≡ reportedRows (now (words .entry)) list ⌝ }
 {
     let mut out = no_rows();
     let mut i: usize = 0;
@@ -86,19 +85,18 @@ fn list_rows(words: &[u32], count: usize, list: Rows) -> [ListRow; 80]
 
 // A stop of a conversion.
 pub fn stop(words: &mut [u32], staged: Staged) -> Partly
-    requires { ⌜ (staged .full ≡ false → Stands (now words) staged) ⌝ }
+    requires { ⌜ Tidy (staged .list) ⌝ }
     ensures { λ r. ⌜ ReportsStop (now (words .entry)) staged (now (words .exit)) r ⌝ }
 {
-    if staged.full {
+    if MOST_NODES < staged.count as usize {
         ground::zero(words);
         return refused_partly(Refusal::SHORT);
     }
-    let rows = staged.list;
-    let list = list_rows(&words[..], staged.count, rows);
+    let list = list_rows(&words[..], staged.list);
     Partly {
         refusal: Refusal::DONE,
-        nodes: staged.count,
-        rows: rows.count,
+        nodes: staged.count as usize,
+        rows: staged.list.count,
         list,
     }
 }
@@ -107,13 +105,13 @@ pub fn stop(words: &mut [u32], staged: Staged) -> Partly
 pub fn answer(words: &mut [u32], got: Got) -> Wholly
     ensures { λ r. ⌜ ReportsAnswer (now (words .entry)) got (now (words .exit)) r ⌝ }
 {
-    if got.full {
+    if MOST_NODES < got.count as usize {
         ground::zero(words);
         return refused_whole(Refusal::SHORT);
     }
     Wholly {
         refusal: Refusal::DONE,
-        nodes: got.count,
+        nodes: got.count as usize,
         answer: got.node as usize,
     }
 }

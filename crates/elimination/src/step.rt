@@ -1,12 +1,12 @@
 // One state taken out of the row list. It may be any state.
 ghost use mathlib.Core.Path.{_≡_};
-ghost use mathlib.Core.Bool.{false};
 ghost use Prim.Native.Nat.{_<_};
+ghost use lib.ListN.{length};
 ghost use Rattle.sets.specs.Members.{stateWidth};
-ghost use Rattle.expressions.specs.Words.{nodeIn, tableOf};
+ghost use Rattle.expressions.specs.Words.{nodeIn};
 ghost use Rattle.ground.specs.Lists.{those};
 ghost use Rattle.theory.specs.Stages.{holeAt, replacedMade, replacedRows, remainsNode, standInMade, eliminatedStage};
-ghost use Rattle.elimination.specs.Inside.{Ready, GivesNode, Listed, Stands, GivesRow, GivesStage, rowsIn, stageIn, picks, pickedBy, pickedMade, joinedRow, replacedRow, loopMade};
+ghost use Rattle.elimination.specs.Inside.{GoesOn, RowsOn, StagesOn, Tidy, Sorted, LowRows, rowsIn, stageOf, pickedBy, pickedMade, joinedRow, loopMade};
 use crate::maker;
 use crate::maker::Got;
 use crate::rows;
@@ -30,28 +30,21 @@ fn picked(words: &[u32], row: NodeRow, q: u32, looping: bool) -> bool
 
 // A row's node joined to what there is so far, where the row is picked.
 fn join_row(words: &mut [u32], left: Got, row: NodeRow, q: u32, looping: bool) -> Got
-    requires { ⌜ Ready (now words) (left .count) ⌝ }
-    requires { ⌜ left .full ≡ false ⌝ }
-    requires { ⌜ left .node < left .count ⌝ }
-    requires { ⌜ row .node < left .count ⌝ }
-    ensures { λ r. ⌜ GivesNode (now (words .entry)) (joinedRow (picks q looping (tableOf (now (words .entry)) (left .count))) (tableOf (now (words .entry)) (left .count)) (left .node) row) (now (words .exit)) r ⌝ }
+    ensures { λ r. ⌜ GoesOn (λ made. (made .node < length (made .table)) × (row .node < length (made .table))) (joinedRow q looping row) (now (words .entry)) left (now (words .exit)) r ⌝ }
 {
     if picked(&words[..], row, q, looping) {
-        return maker::make_alt(words, left.count, left.node, ground::wide16(row.node));
+        return maker::make_alt(words, left, ground::wide16(row.node));
     }
     left
 }
 
 // The looping rows of q joined, or the incoming ones.
-pub fn join_rows(words: &mut [u32], count: usize, list: Rows, q: u32, looping: bool) -> Got
-    requires { ⌜ Ready (now words) count ⌝ }
-    requires { ⌜ Listed list count ⌝ }
-    requires { ⌜ 0 < count ⌝ }
-    ensures { λ r. ⌜ GivesNode (now (words .entry)) (pickedMade q looping (stageIn (now (words .entry)) count list)) (now (words .exit)) r ⌝ }
+pub fn join_rows(words: &mut [u32], last: Got, list: Rows, q: u32, looping: bool) -> Got
+    requires { ⌜ Tidy list ⌝ }
+    ensures { λ r. ⌜ GoesOn (λ made. (0 < length (made .table)) × LowRows (rowsIn list) (made .table)) (λ made. pickedMade q looping (stageOf (made .table) list)) (now (words .entry)) last (now (words .exit)) r ⌝ }
 {
     let mut got = Got {
-        full: false,
-        count,
+        count: last.count,
         node: 0,
     };
     let mut i: usize = 0;
@@ -59,128 +52,68 @@ pub fn join_rows(words: &mut [u32], count: usize, list: Rows, q: u32, looping: b
         let row = list.places[i];
         i += 1;
         got = join_row(words, got, row, q, looping);
-        if got.full {
-            return got;
-        }
     }
     got
 }
 
 // A, the looping rows joined, and then I, its iteration.
-fn loop_node(words: &mut [u32], count: usize, list: Rows, q: u32) -> Got
-    requires { ⌜ Ready (now words) count ⌝ }
-    requires { ⌜ Listed list count ⌝ }
+fn loop_node(words: &mut [u32], last: Got, list: Rows, q: u32) -> Got
+    requires { ⌜ Tidy list ⌝ }
     requires { ⌜ q < stateWidth ⌝ }
-    requires { ⌜ holeAt q < count ⌝ }
-    ensures { λ r. ⌜ GivesNode (now (words .entry)) (loopMade q (stageIn (now (words .entry)) count list)) (now (words .exit)) r ⌝ }
+    ensures { λ r. ⌜ GoesOn (λ made. (holeAt q < length (made .table)) × LowRows (rowsIn list) (made .table)) (λ made. loopMade q (stageOf (made .table) list)) (now (words .entry)) last (now (words .exit)) r ⌝ }
 {
-    let a = join_rows(words, count, list, q, true);
-    if a.full {
-        return a;
-    }
-    maker::make_iter(words, a.count, q, a.node)
+    let a = join_rows(words, last, list, q, true);
+    maker::make_iter(words, a, q)
 }
 
 // After I also B, the incoming rows joined, and X, which stands in for q.
-fn stand_in(words: &mut [u32], count: usize, list: Rows, q: u32) -> Got
-    requires { ⌜ Ready (now words) count ⌝ }
-    requires { ⌜ Listed list count ⌝ }
+fn stand_in(words: &mut [u32], last: Got, list: Rows, q: u32) -> Got
+    requires { ⌜ Tidy list ⌝ }
     requires { ⌜ q < stateWidth ⌝ }
-    requires { ⌜ holeAt q < count ⌝ }
-    ensures { λ r. ⌜ GivesNode (now (words .entry)) (standInMade q (stageIn (now (words .entry)) count list)) (now (words .exit)) r ⌝ }
+    ensures { λ r. ⌜ GoesOn (λ made. (holeAt q < length (made .table)) × LowRows (rowsIn list) (made .table)) (λ made. standInMade q (stageOf (made .table) list)) (now (words .entry)) last (now (words .exit)) r ⌝ }
 {
-    let i = loop_node(words, count, list, q);
-    if i.full {
-        return i;
-    }
-    let b = join_rows(words, i.count, list, q, false);
-    if b.full {
-        return b;
-    }
-    maker::make_cat(words, b.count, q, i.node, b.node)
+    let i = loop_node(words, last, list, q);
+    let b = join_rows(words, i, list, q, false);
+    maker::make_cat(words, b, q, i.node, b.node)
 }
 
-// What becomes of a row: whether there was no room, else the number of nodes, how many rows it leaves (0 or 1), and that row.
-pub struct Replaced {
-    pub full: bool,
-    pub count: usize,
-    pub kept: usize,
-    pub row: NodeRow,
-}
-
-// An outgoing row's new node, any other row's own.
-fn replaced_node(words: &mut [u32], count: usize, q: u32, standin: u32, row: NodeRow) -> Got
-    requires { ⌜ Ready (now words) count ⌝ }
+// The node of a row that stays: an outgoing row's new one, any other row's own.
+fn replace(words: &mut [u32], last: Got, q: u32, standin: u32, row: NodeRow) -> Got
     requires { ⌜ q < stateWidth ⌝ }
-    requires { ⌜ row .node < count ⌝ }
-    requires { ⌜ standin < count ⌝ }
     requires { ⌜ (row .target ≡ q → ⊥) ⌝ }
-    ensures { λ r. ⌜ GivesNode (now (words .entry)) (replacedMade q standin (tableOf (now (words .entry)) count) row) (now (words .exit)) r ⌝ }
+    ensures { λ r. ⌜ GoesOn (λ made. (row .node < length (made .table)) × (standin < length (made .table))) (λ made. replacedMade q standin (made .table) row) (now (words .entry)) last (now (words .exit)) r ⌝ }
 {
     let node = ground::wide16(row.node);
     if maker::opens(&words[..], node, q) {
-        return maker::make_cat(words, count, q, node, standin);
+        return maker::make_cat(words, last, q, node, standin);
     }
     Got {
-        full: false,
-        count,
+        count: last.count,
         node,
     }
 }
 
-// A looping or incoming row leaves no row, any other row itself, with its new node where it is outgoing.
-fn replace(words: &mut [u32], count: usize, q: u32, standin: u32, row: NodeRow) -> Replaced
-    requires { ⌜ Ready (now words) count ⌝ }
+// The outgoing rows of q replaced at their places; its looping and incoming rows go.
+fn replace_rows(words: &mut [u32], standin: Got, list: Rows, q: u32) -> Staged
+    requires { ⌜ Tidy list ⌝ }
     requires { ⌜ q < stateWidth ⌝ }
-    requires { ⌜ row .node < count ⌝ }
-    requires { ⌜ standin < count ⌝ }
-    ensures { λ r. ⌜ GivesRow (now (words .entry)) (replacedRow q standin (tableOf (now (words .entry)) count) row) (now (words .exit)) r ⌝ }
+    ensures { λ r. ⌜ RowsOn (λ made. (made .node < length (made .table)) × LowRows (rowsIn list) (made .table)) (λ made. replacedRows q (made .node) (made .table) (those (remainsNode q (made .table)) (rowsIn list))) (now (words .entry)) standin (now (words .exit)) r ⌝ }
 {
-    let target = row.target;
-    if ground::wide(target) == q {
-        return Replaced {
-            full: false,
-            count,
-            kept: 0,
-            row: rows::UNUSED,
-        };
-    }
-    let got = replaced_node(words, count, q, standin, row);
-    Replaced {
-        full: got.full,
-        count: got.count,
-        kept: 1,
-        row: rows::row(got.node, target),
-    }
-}
-
-// The rows that stay, in order. A row that goes leaves its place unused, and the next row takes it.
-fn replace_rows(words: &mut [u32], count: usize, list: Rows, q: u32, standin: u32) -> Staged
-    requires { ⌜ Ready (now words) count ⌝ }
-    requires { ⌜ Listed list count ⌝ }
-    requires { ⌜ q < stateWidth ⌝ }
-    requires { ⌜ standin < count ⌝ }
-    ensures { λ r. ⌜ GivesStage (now (words .entry)) (replacedRows q standin (tableOf (now (words .entry)) count) (those (remainsNode q (tableOf (now (words .entry)) count)) (rowsIn list))) (now (words .exit)) r ⌝ }
-{
-    let mut places = rows::no_places();
+    let mut places = list.places;
     let mut kept: usize = 0;
-    let mut made = count;
+    let mut got = standin;
     let mut i: usize = 0;
     while i < list.count {
         let row = list.places[i];
         i += 1;
-        let r = replace(words, made, q, standin, row);
-        if r.full {
-            return rows::no_room();
+        if ground::wide(row.target) != q {
+            got = replace(words, got, q, standin.node, row);
+            places[kept] = rows::row(got.node, row.target);
+            kept += 1;
         }
-        made = r.count;
-        let left = r.row;
-        places[kept] = left;
-        kept += r.kept;
     }
     Staged {
-        full: false,
-        count: made,
+        count: got.count,
         list: Rows {
             count: kept,
             places,
@@ -190,15 +123,14 @@ fn replace_rows(words: &mut [u32], count: usize, list: Rows, q: u32, standin: u3
 
 // State q taken out.
 pub fn take_out(words: &mut [u32], staged: Staged, q: u32) -> Staged
-    requires { ⌜ Stands (now words) staged ⌝ }
+    requires { ⌜ Tidy (staged .list) ⌝ }
     requires { ⌜ q < stateWidth ⌝ }
-    requires { ⌜ holeAt q < staged .count ⌝ }
-    ensures { λ r. ⌜ GivesStage (now (words .entry)) (eliminatedStage q (stageIn (now (words .entry)) (staged .count) (staged .list))) (now (words .exit)) r ⌝ }
+    ensures { λ r. ⌜ StagesOn (λ stage. Sorted stage × (holeAt q < length (stage .table))) (eliminatedStage q) (now (words .entry)) staged (now (words .exit)) r ⌝ }
 {
-    let list = staged.list;
-    let x = stand_in(words, staged.count, list, q);
-    if x.full {
-        return rows::no_room();
-    }
-    replace_rows(words, x.count, list, q, x.node)
+    let last = Got {
+        count: staged.count,
+        node: 0,
+    };
+    let x = stand_in(words, last, staged.list, q);
+    replace_rows(words, x, staged.list, q)
 }

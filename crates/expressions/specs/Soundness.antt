@@ -6,6 +6,7 @@ use mathlib.Core.List.{List, [], _∷_, map}
 use lib.ListN.{length, getD, take}
 use Rattle.sets.specs.Members.{has, emptySet, oneSet, union, without, stateWidth}
 use Rattle.ground.specs.Lists.{All}
+use Rattle.automaton.specs.Held.{mostSymbols, mostArity}
 use Rattle.expressions.specs.declared.Shape.{Shape}
 use Rattle.expressions.specs.declared.Node.{Node}
 use Rattle.expressions.specs.Nodes.{Kind, emptyᴷ, holeᴷ, symbolᴷ, altᴷ, catᴷ, iterᴷ, otherᴷ, kindOf, Table, nodeAt, symbolOf, arityOf, children, unused}
@@ -17,7 +18,7 @@ use Rattle.expressions.specs.Words.{nodeWidth, tableOf}
 abbrev pub LabelledAs : Kind → ℕ → Type 0
 LabelledAs emptyᴷ label = label ≡ 0
 LabelledAs holeᴷ label = label < stateWidth
-LabelledAs symbolᴷ label = (symbolOf label < 32) × (arityOf label ≤ 3)
+LabelledAs symbolᴷ label = (symbolOf label < mostSymbols) × (arityOf label ≤ mostArity)
 LabelledAs altᴷ label = label ≡ 0
 LabelledAs catᴷ label = label < stateWidth
 LabelledAs iterᴷ label = label < stateWidth

@@ -13,6 +13,9 @@ mod sizes;
 // The words of a node.
 pub const NODE_WIDTH: usize = 6;
 
+// A symbol's label is the symbol and so many times its arity.
+pub const ARITY_STEP: u32 = 256;
+
 // The most nodes that a table may have.
 pub const MOST_NODES: usize = 4096;
 
@@ -62,7 +65,7 @@ impl Shape {
         match kind {
             0 => 0,
             1 => 0,
-            2 => label / 256,
+            2 => label / ARITY_STEP,
             3 => 2,
             4 => 2,
             5 => 1,
@@ -97,10 +100,25 @@ pub fn is_sound(words: &[u32], count: usize, answer: usize) -> bool
     nodes::all_sound(words, count)
 }
 
-// The node of this shape, as the next node of the table. Its open set is derived from the children's. Refused, and nothing changed: 8 where the label or a child does not suit, then 6 where there is no room.
-pub fn make(words: &mut [u32], count: usize, shape: Shape) -> Refusal
-    ensures { λ r. ⌜ Makes (now (words .entry)) count shape (now (words .exit)) r ⌝ }
+// The node of this kind, label and children, as the next node of the table. Its open set is derived from the children's. Refused, and nothing changed: 8 where the label or a child does not suit, then 6 where there is no room.
+pub fn make(
+    words: &mut [u32],
+    count: usize,
+    kind: u32,
+    label: u32,
+    first: u32,
+    second: u32,
+    third: u32,
+) -> Refusal
+    ensures { λ r. ⌜ Makes (now (words .entry)) count (record { kind = kind; label = label; first = first; second = second; third = third }) (now (words .exit)) r ⌝ }
 {
+    let shape = Shape {
+        kind,
+        label,
+        first,
+        second,
+        third,
+    };
     if !nodes::shape_fits(count, shape) {
         return Refusal::UNSOUND;
     }

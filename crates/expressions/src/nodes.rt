@@ -11,17 +11,24 @@ ghost use Rattle.ground.specs.Lists.{All};
 ghost use Rattle.expressions.specs.Nodes.{children};
 ghost use Rattle.expressions.specs.Words.{nodeWidth, readNode, tableOf, putNode};
 ghost use Rattle.expressions.specs.Soundness.{Labelled, Fits, unionAll, catOpens, opensIn, completed, SoundNode, SoundNodes, mostNodes};
+use crate::ARITY_STEP;
 use crate::Node;
 use crate::Shape;
 use crate::layout;
 use sets::StateSet;
 
-// Is the label that of a symbol 0 to 31 of arity 0 to 3?
+const MOST_STATES: u32 = automaton::MOST_STATES as u32;
+
+const MOST_SYMBOLS: u32 = automaton::MOST_SYMBOLS as u32;
+
+const MOST_ARITY: u32 = automaton::MOST_ARITY as u32;
+
+// Is the label that of a symbol that a file may have, with an arity that it may have?
 fn symbol_fits(label: u32) -> bool
     ensures { λ r. ⌜ Decides (Labelled 2 label) r ⌝ }
 {
-    if label / 256 <= 3 {
-        return label % 256 < 32;
+    if label / ARITY_STEP <= MOST_ARITY {
+        return label % ARITY_STEP < MOST_SYMBOLS;
     }
     false
 }
@@ -32,11 +39,11 @@ fn label_fits(kind: u32, label: u32) -> bool
 {
     match kind {
         0 => label == 0,
-        1 => label < 16,
+        1 => label < MOST_STATES,
         2 => symbol_fits(label),
         3 => label == 0,
-        4 => label < 16,
-        5 => label < 16,
+        4 => label < MOST_STATES,
+        5 => label < MOST_STATES,
         _ => false,
     }
 }

@@ -6,11 +6,12 @@ ghost use Prim.Native.Nat.{suc, _*_, _<_, _≤_};
 ghost use lib.Dec.{ltb};
 ghost use lib.ListN.{length, getD, drop};
 ghost use Rattle.ground.specs.Lists.{All};
-ghost use Rattle.expressions.specs.Nodes.{children};
+ghost use Rattle.expressions.specs.Nodes.{childCount, children};
 ghost use Rattle.expressions.specs.Words.{nodeWidth, readNode, tableOf};
 ghost use Rattle.expressions.specs.Soundness.{Fits, SoundNodes};
 ghost use Rattle.expressions.specs.Sizes.{held, sizesOf};
 ghost use Rattle.expressions.specs.Inside.{sizeOver};
+use crate::ARITY_STEP;
 use crate::Shape;
 use crate::layout;
 
@@ -26,16 +27,34 @@ fn part(sizes: &[u32], place: u32, n: u32, child: u32) -> u64
     0
 }
 
-// 1 plus the sizes of a node's children.
-fn size_over(sizes: &[u32], shape: Shape) -> u64
+// 1 plus the sizes of a node's children, which are n.
+fn over_children(sizes: &[u32], shape: Shape, n: u32) -> u64
+    requires { ⌜ n ≡ childCount (shape .kind) (shape .label) ⌝ }
     requires { ⌜ All (λ c. c < length (now sizes)) (children shape) ⌝ }
     ensures { λ r. ⌜ r ≡ sizeOver (λ c. getD (now (sizes .entry)) c 0) shape ⌝ }
 {
-    let n = shape.child_count();
     let a = part(sizes, 0, n, shape.first);
     let b = part(sizes, 1, n, shape.second);
     let c = part(sizes, 2, n, shape.third);
     1 + a + b + c
+}
+
+// 1 plus the sizes of a node's children, as many as its kind has.
+fn size_over(sizes: &[u32], shape: Shape) -> u64
+    requires { ⌜ All (λ c. c < length (now sizes)) (children shape) ⌝ }
+    ensures { λ r. ⌜ r ≡ sizeOver (λ c. getD (now (sizes .entry)) c 0) shape ⌝ }
+{
+    let kind = shape.kind;
+    let label = shape.label;
+    match kind {
+        0 => 1,
+        1 => 1,
+        2 => over_children(sizes, shape, label / ARITY_STEP),
+        3 => over_children(sizes, shape, 2),
+        4 => over_children(sizes, shape, 2),
+        5 => over_children(sizes, shape, 1),
+        _ => 1,
+    }
 }
 
 // The size of node i by those of the nodes before it, held at the largest 32-bit number.

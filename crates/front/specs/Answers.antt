@@ -7,7 +7,7 @@ use lib.ListN.{length, drop}
 use Rattle.automaton.specs.Refusals.{refusal}
 use Rattle.automaton.specs.Checks.{Verdict, holds, fault, verdict}
 use Rattle.expressions.specs.Words.{nodeWidth}
-use Rattle.listing.specs.Inside.{longestLine, longestAnswer}
+use Rattle.listing.specs.Listing.{longestLine, longestAnswer}
 use Rattle.theory.specs.Stages.{converted}
 use Rattle.elimination.specs.Answers.{wholeNodes, writtenTo}
 use Rattle.ground.specs.Writing.{allZero}

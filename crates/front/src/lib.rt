@@ -2,15 +2,13 @@
 ghost use Rattle.front.specs.Answers.{Prints};
 use automaton::Refusal;
 use expressions::NODE_WIDTH;
+use listing::LONGEST_ANSWER;
+use listing::LONGEST_LINE;
 
 mod text;
 
-// The most nodes that a conversion makes, and the bytes of the longest lines of its listing.
+// The most nodes that a conversion makes.
 const MOST_MADE: usize = 1393;
-
-const LONGEST_LINE: usize = 30;
-
-const LONGEST_ANSWER: usize = 12;
 
 // Words and bytes enough for any file: with so many, `printed` never answers 6.
 pub const NODE_WORDS: usize = NODE_WIDTH * MOST_MADE;

@@ -1,15 +1,10 @@
 // Doors in C's calling convention to the functions on sets and to the helpers, as `doors` has them to the others; the three of `ground` that only
 // widen a number have none.
-use expressions::Node;
-use expressions::Shape;
 use sets::StateSet;
-ghost use mathlib.Core.Path.{_≡_};
 ghost use Rattle.sets.specs.Promises.{IsEmpty, IsOne, IsOfWord, IsUnion, SaysMember, SaysPast, IsWithout, IsCount};
 ghost use Rattle.ground.specs.Decimal.{decimal};
 ghost use Rattle.ground.specs.Writing.{Puts};
 ghost use Rattle.ground.specs.Promises.{CountsDigits, Clears};
-ghost use Rattle.expressions.specs.Nodes.{childCount};
-ghost use Rattle.expressions.specs.Words.{nodeIn};
 
 // ---- sets
 
@@ -97,20 +92,4 @@ pub extern "C" fn door_put_number(out: &mut [u8], at: usize, n: u64) -> usize
     ensures { λ r. ⌜ Puts (now (out .entry)) at (decimal n) (now (out .exit)) r ⌝ }
 {
     ground::put_number(out, at, n)
-}
-
-// ---- nodes
-
-#[no_mangle]
-pub extern "C" fn door_child_count(shape: Shape) -> u32
-    ensures { λ r. ⌜ r ≡ childCount (shape .kind) (shape .label) ⌝ }
-{
-    shape.child_count()
-}
-
-#[no_mangle]
-pub extern "C" fn door_node_at(words: &[u32], i: usize) -> Node
-    ensures { λ r. ⌜ r ≡ nodeIn (now (words .entry)) i ⌝ }
-{
-    expressions::node_at(words, i)
 }

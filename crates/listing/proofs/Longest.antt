@@ -17,9 +17,9 @@ use Rattle.expressions.specs.Soundness.{Labelled, LabelledAs, Fits, SoundNodes,
 use Rattle.expressions.proofs.Words.{length-table}
 use Rattle.expressions.proofs.Soundness.{fits-at}
 use Rattle.expressions.proofs.Places.{child-first, child-second, child-third}
-use Rattle.listing.specs.Listing.{nameOf, kindName, numberShown, labelNumber, plainLabel, nodeLine, nodeLines, answerLine, listing}
+use Rattle.listing.specs.Listing.{nameOf, kindName, numberShown, labelNumber, plainLabel, nodeLine, nodeLines, answerLine, listing, longestLine, longestAnswer}
 use Rattle.listing.specs.Answers.{listingOf}
-use Rattle.listing.specs.Inside.{showsLabel, fieldBytes, headBytes, childrenBytes, longestLine, longestAnswer}
+use Rattle.listing.specs.Inside.{showsLabel, fieldBytes, headBytes, childrenBytes}
 use Rattle.listing.proofs.Listing.{line-size, answer-size}
 
 -- ---- a line

@@ -41,10 +41,3 @@ childrenBytes shape =
 -- bytes that are put where they fit: then they are written, and the answer is the place after them
 abbrev pub FitsThen : (before : List ℕ) (at : ℕ) (bytes after : List ℕ) (next : ℕ) → Type 0
 FitsThen before at bytes after next = at + length bytes ≤ length before → Wrote before at bytes after next
-
--- the most bytes that the line of a node of a sound table has, and that the last line has
-abbrev pub longestLine : ℕ
-longestLine = 30
-
-abbrev pub longestAnswer : ℕ
-longestAnswer = 12

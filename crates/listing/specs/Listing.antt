@@ -77,3 +77,10 @@ answerLine answer = line (97 ∷ 110 ∷ 115 ∷ 119 ∷ 101 ∷ 114 ∷ []) (de
 -- the listing: the lines of the nodes in their order, and the last line [9.4]
 unfoldable pub listing : (Shape → List ℕ) → Table → ℕ → List ℕ
 listing labelBytes table answer = nodeLines labelBytes 0 table ++ answerLine answer
+
+-- the most bytes that the line of a node of a sound table has, and that the last line has: with room for so many a listing is never refused [9.12]
+abbrev pub longestLine : ℕ
+longestLine = 30
+
+abbrev pub longestAnswer : ℕ
+longestAnswer = 12

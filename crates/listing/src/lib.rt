@@ -4,6 +4,11 @@ use automaton::Refusal;
 
 mod lines;
 
+// The most bytes of a node's line, and of the last line.
+pub const LONGEST_LINE: usize = 30;
+
+pub const LONGEST_ANSWER: usize = 12;
+
 // What `list` answers: the listing's length, 0 on a refusal.
 #[repr(C)]
 pub struct Listed {

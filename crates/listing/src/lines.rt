@@ -9,12 +9,10 @@ ghost use Rattle.expressions.specs.Soundness.{Sound};
 ghost use Rattle.listing.specs.Listing.{labelNumber, plainLabel, nodeLine, answerLine};
 ghost use Rattle.listing.specs.Answers.{listingOf};
 ghost use Rattle.listing.specs.Inside.{showsLabel, fieldBytes, nameBytes, headBytes, childrenBytes, FitsThen};
+use crate::LONGEST_ANSWER;
+use crate::LONGEST_LINE;
+use expressions::ARITY_STEP;
 use expressions::Shape;
-
-// The most bytes of a node's line, and of the last line.
-const LONGEST_LINE: usize = 30;
-
-const LONGEST_ANSWER: usize = 12;
 
 // ---- the label
 
@@ -40,7 +38,7 @@ fn label_number(kind: u32, label: u32) -> u32
     match kind {
         0 => label,
         1 => label,
-        2 => label % 256,
+        2 => label % ARITY_STEP,
         3 => label,
         4 => label,
         5 => label,

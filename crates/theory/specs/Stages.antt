@@ -116,7 +116,7 @@ joinMadeFrom table a (b ∷ bs) = let made = altMade table a b in joinMadeFrom (
 
 -- some nodes joined, node 0 first [8.14]
 unfoldable pub joinMade : Table → List ℕ → Made
-joinMade table nodes = joinMadeFrom table 0 nodes
+joinMade table some = joinMadeFrom table 0 some
 
 -- ---- one state
 

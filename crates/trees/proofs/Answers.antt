@@ -13,7 +13,7 @@ use lib.Pow.{pow-mono}
 use borrow.Author.Tests.{le-leb, leb-true, leb-false}
 use Rattle.sets.specs.Members.{has, stateWidth}
 use Rattle.sets.proofs.Bits.{same-members, has-high}
-use Rattle.automaton.specs.Refusals.{refusal, noRefusal}
+use Rattle.automaton.specs.Refusals.{refusal}
 use Rattle.automaton.specs.Held.{Held, Valid}
 use Rattle.automaton.specs.Checks.{Verdict, verdict, holds, fault}
 use Rattle.trees.specs.declared.ReachedStates.{ReachedStates}

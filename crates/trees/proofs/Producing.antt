@@ -7,13 +7,12 @@ use mathlib.Core.Path.{_≡_, refl, sym, _∙_, ap, subst}
 use mathlib.Core.List.{List, [], _∷_, List·Memᴰ}
 use lib.Bits.{bitOr, or-add-and, and-le-r}
 use lib.Dec.{eqb}
-use lib.ListN.{length, take, replicate, getD-replicate}
+use lib.ListN.{length, take}
 use borrow.Author.Tests.{eqb-true, eq-eqb}
 use Rattle.sets.specs.Members.{has}
 use Rattle.sets.proofs.Bits.{has-or}
-use Rattle.automaton.specs.Held.{Rule, Held, Valid}
+use Rattle.automaton.specs.Held.{Rule, Held, Valid, mostArity}
 use Rattle.ground.specs.Lists.{All, anyOf}
-use Rattle.trees.specs.declared.columns.Columns.{Columns}
 use Rattle.meaning.specs.Trees.{Tree, Forest, hole, node, []ᶠ, _∷ᶠ_}
 use Rattle.trees.specs.Words.{count, OfKnown, AllOfKnown, KnownIn, arityIn}
 use Rattle.trees.specs.Runs.{Reaches, ReachesEach, Productive}
@@ -21,7 +20,7 @@ use Rattle.trees.specs.Piles.{eachIn}
 use Rattle.trees.specs.Columns.{Tabled, Scanned}
 use Rattle.ground.proofs.Truth.{and-parts, and-both, or-right}
 use Rattle.ground.proofs.Lists.{any-pick, any-mem, all-map}
-use Rattle.trees.proofs.Firing.{met, met-each, scanned, arity-three, valid-member}
+use Rattle.trees.proofs.Firing.{met, met-each, scanned, small-arity, valid-member}
 
 -- a set of states that is closed under the rows
 abbrev pub Closed : List Rule → (ℕ → Type 0) → Type 0
@@ -55,14 +54,14 @@ module _ (rules : List Rule) where
 -- ---- one round over the rows
 
 -- each source is in the one set
-pub met-all : (rule : Rule) (have : ℕ) → length (rule .sources) ≤ 3 → (met rule have have have ≡ true) ↔ All (λ q. has have q ≡ true) (rule .sources)
+pub met-all : (rule : Rule) (have : ℕ) → length (rule .sources) ≤ mostArity → (met rule have have have ≡ true) ↔ All (λ q. has have q ≡ true) (rule .sources)
 unfolding eachIn
 met-all rule have few = (λ e. there (rule .sources) few (sym (met-each rule have have have few) ∙ e), λ a. met-each rule have have have few ∙ back (rule .sources) few a)
   where
     three : List ℕ
     three = have ∷ (have ∷ (have ∷ []))
 
-    there : (qs : List ℕ) → length qs ≤ 3 → eachIn qs (take (length qs) three) ≡ true → All (λ q. has have q ≡ true) qs
+    there : (qs : List ℕ) → length qs ≤ mostArity → eachIn qs (take (length qs) three) ≡ true → All (λ q. has have q ≡ true) qs
     there [] l e = tt
     there (x ∷ []) l e = (and-parts (has have x) true e .0, tt)
     there (x ∷ (y ∷ [])) l e =
@@ -74,7 +73,7 @@ met-all rule have few = (λ e. there (rule .sources) few (sym (met-each rule hav
         (r .0, (s .0, (and-parts (has have z) true (s .1) .0, tt)))
     there (x ∷ (y ∷ (z ∷ (w ∷ ws)))) l e = absurd (omega arith)
 
-    back : (qs : List ℕ) → length qs ≤ 3 → All (λ q. has have q ≡ true) qs → eachIn qs (take (length qs) three) ≡ true
+    back : (qs : List ℕ) → length qs ≤ mostArity → All (λ q. has have q ≡ true) qs → eachIn qs (take (length qs) three) ≡ true
     back [] l a = refl
     back (x ∷ []) l a = and-both (has have x) true (a .0) refl
     back (x ∷ (y ∷ [])) l a = and-both (has have x) (has have y && true) (a .0) (and-both (has have y) true (a .1 .0) refl)
@@ -83,19 +82,18 @@ met-all rule have few = (λ e. there (rule .sources) few (sym (met-each rule hav
         (and-both (has have y) (has have z && true) (a .1 .0) (and-both (has have z) true (a .1 .1 .0) refl))
     back (x ∷ (y ∷ (z ∷ (w ∷ ws)))) l a = absurd (omega arith)
 
-module _ (held : Held) (v : Valid held) (t : Columns) (tabled : Tabled (held .rules) t) (have found : ℕ)
-    (scan : Scanned (replicate 64 0) (t .firsts) (t .seconds) (t .thirds) (t .targets) 0 have have have found) where
+module _ (held : Held) (v : Valid held) (table : List ℕ) (tabled : Tabled (held .rules) table) (have found : ℕ)
+    (scan : Scanned false table 0 have have have found) where
   row : ℕ → Rule → Bool
   row q rule = true && (eqb (rule .target) q && met rule have have have)
 
-  few-sources : (rule : Rule) → List·Memᴰ rule (held .rules) → length (rule .sources) ≤ 3
-  few-sources rule m = omega (arith, valid-member held v rule m .suited, arity-three held (rule .symbol) v)
+  few-sources : (rule : Rule) → List·Memᴰ rule (held .rules) → length (rule .sources) ≤ mostArity
+  few-sources rule m = omega (arith, valid-member held v rule m .suited, small-arity held (rule .symbol) v)
 
   found-has : (q : ℕ) → has found q ≡ anyOf (row q) (held .rules)
   unfolding row
   found-has q =
-      scanned (held .rules) (v .few-rules) t tabled (replicate 64 0) 0 (λ rule. true) (record { symbol = 0; target = 0; sources = [] })
-      (λ i h. ap (λ (n : ℕ). eqb n 0) (getD-replicate 64 i 0 0 (omega (arith, v .few-rules)))) have have have found scan q
+      scanned (held .rules) (v .few-rules) table tabled false 0 (λ rule. true) (record { symbol = 0; target = 0; sources = [] }) (λ i h. refl) have have have found scan q
 
   -- what a round adds is productive
   pub round-productive : ((q : ℕ) → has have q ≡ true → Productive (held .rules) q) → (q : ℕ) → has (bitOr have found) q ≡ true → Productive (held .rules) q

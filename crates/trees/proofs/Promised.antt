@@ -1,15 +1,11 @@
 -- The promises are kept: by the answer for a file that is refused, and by the answer for what a file holds. And the answer of a run, computed from the file's bytes and the words alone.
 use Prim.Native.Nat.{ℕ}
-use mathlib.Core.Path.{_≡_, refl, sym, _∙_, ap, subst}
+use mathlib.Core.Path.{_≡_, refl, sym, ap, subst}
 use mathlib.Core.List.{List}
-use Rattle.automaton.specs.declared.Automaton.{Automaton}
-use Rattle.automaton.specs.declared.Reading.{Reading}
-use Rattle.automaton.specs.Held.{Held, Valid}
+use Rattle.automaton.specs.Held.{Held}
 use Rattle.automaton.specs.Refusals.{refusal, faultRefusal}
 use Rattle.automaton.specs.Checks.{Verdict, verdict, holds, fault}
-use Rattle.automaton.specs.Answers.{heldBy, readingOf, readAnswer}
-use Rattle.automaton.proofs.Faults.{fault-some, one-held, never-both}
-use Rattle.automaton.proofs.Values.{held-placed}
+use Rattle.automaton.proofs.Faults.{one-held, never-both}
 use Rattle.automaton.proofs.Pair.{verdict-valid}
 use Rattle.trees.specs.declared.ReachedStates.{ReachedStates}
 use Rattle.trees.specs.declared.ProductiveStates.{ProductiveStates}

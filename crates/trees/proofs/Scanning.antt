@@ -13,12 +13,12 @@ use lib.Pow.{pow-lt}
 use borrow.Author.Tests.{eqb-true, eq-eqb}
 use Rattle.sets.specs.Members.{has}
 use Rattle.sets.proofs.Bits.{has-or, has-and, has-pow, has-zero, same-members}
-use Rattle.trees.specs.Columns.{within, fires}
+use Rattle.trees.specs.Columns.{firstAt, secondAt, thirdAt, targetAt, within, fires}
 use Rattle.ground.specs.Lists.{anyBelow}
 use Rattle.ground.proofs.Truth.{and-parts, and-both, same-test}
 
 -- a union is empty where both are
-pub or-none : (u v : ℕ) → eqb (bitOr u v) 0 ≡ (eqb u 0 && eqb v 0)
+or-none : (u v : ℕ) → eqb (bitOr u v) 0 ≡ (eqb u 0 && eqb v 0)
 or-none u v = same-test (eqb (bitOr u v) 0) (eqb u 0 && eqb v 0) there back
   where
     there : eqb (bitOr u v) 0 ≡ true → (eqb u 0 && eqb v 0) ≡ true
@@ -33,7 +33,7 @@ or-none u v = same-test (eqb (bitOr u v) 0) (eqb u 0 && eqb v 0) there back
         eq-eqb (bitOr u v) 0 (omega (arith, or-add-and u v, eqb-true u 0 (r .0), eqb-true v 0 (r .1)))
 
 -- a difference is empty where the two are equal
-pub xor-none : (u v : ℕ) → eqb (bitXor u v) 0 ≡ eqb u v
+xor-none : (u v : ℕ) → eqb (bitXor u v) 0 ≡ eqb u v
 xor-none u v = same-test (eqb (bitXor u v) 0) (eqb u v) there back
   where
     there : eqb (bitXor u v) 0 ≡ true → eqb u v ≡ true
@@ -42,19 +42,26 @@ xor-none u v = same-test (eqb (bitXor u v) 0) (eqb u v) there back
     back : eqb u v ≡ true → eqb (bitXor u v) 0 ≡ true
     back e = let same : u ≡ v = eqb-true u v e in eq-eqb (bitXor u v) 0 (rw same (lib.Bits.xor-self v))
 
-pub missed : (s f x a y b z c : ℕ)
-    → eqb (bitOr (bitXor s f) (bitOr (bitXor x (bitAnd x a)) (bitOr (bitXor y (bitAnd y b)) (bitXor z (bitAnd z c))))) 0
-    ≡ (eqb s f && (within x a && (within y b && within z c)))
+-- another symbol is missed, where symbols count
+other-none : (symbols : Bool) (s f : ℕ) → eqb (cond symbols (bitXor s f) 0) 0 ≡ cond symbols (eqb s f) true
+other-none true s f = xor-none s f
+other-none false s f = refl
+
+-- what a row misses: its symbol is another, or a part of what it needs is not there
+abbrev pub missedOf : (o x a y b z c : ℕ) → ℕ
+missedOf o x a y b z c = bitOr o (bitOr (bitXor x (bitAnd x a)) (bitOr (bitXor y (bitAnd y b)) (bitXor z (bitAnd z c))))
+
+missed : (o x a y b z c : ℕ) → eqb (missedOf o x a y b z c) 0 ≡ (eqb o 0 && (within x a && (within y b && within z c)))
 unfolding within
-missed s f x a y b z c =
-    or-none (bitXor s f) (bitOr (bitXor x (bitAnd x a)) (bitOr (bitXor y (bitAnd y b)) (bitXor z (bitAnd z c))))
-    ∙ ap₂ _&&_ (xor-none s f)
+missed o x a y b z c =
+    or-none o (bitOr (bitXor x (bitAnd x a)) (bitOr (bitXor y (bitAnd y b)) (bitXor z (bitAnd z c))))
+    ∙ ap (λ (t : Bool). eqb o 0 && t)
     (or-none (bitXor x (bitAnd x a)) (bitOr (bitXor y (bitAnd y b)) (bitXor z (bitAnd z c)))
     ∙ ap₂ _&&_ (xor-none x (bitAnd x a))
     (or-none (bitXor y (bitAnd y b)) (bitXor z (bitAnd z c)) ∙ ap₂ _&&_ (xor-none y (bitAnd y b)) (xor-none z (bitAnd z c))))
 
 -- one more row: its target joins where it fires
-pub has-more : (found target q : ℕ) (b : Bool) → has (bitOr found (cond b target 0)) q ≡ (has found q || (b && has target q))
+has-more : (found target q : ℕ) (b : Bool) → has (bitOr found (cond b target 0)) q ≡ (has found q || (b && has target q))
 has-more found target q true = has-or found target q
 has-more found target q false = has-or found 0 q ∙ ap (λ (b : Bool). has found q || b) (has-zero q)
 
@@ -91,27 +98,26 @@ within-one q a = same-test (within (2 ^ q) a) (has a q) there back
 
 -- ---- the scan, row by row
 
-module _ (symbols firsts seconds thirds targets : List ℕ) (f a b c : ℕ) where
+module _ (symbols : Bool) (table : List ℕ) (f a b c : ℕ) where
   -- the targets of the first rows that fire
   abbrev pub Sofar : ℕ → ℕ → Type 0
-  Sofar i found = (q : ℕ) → has found q ≡ anyBelow i (λ j. fires symbols firsts seconds thirds f a b c j && has (getD targets j 0) q)
+  Sofar i found = (q : ℕ) → has found q ≡ anyBelow i (λ j. fires symbols table f a b c j && has (getD table (targetAt j) 0) q)
 
   pub scan-none : Sofar 0 0
   unfolding anyBelow
   scan-none q = has-zero q
 
-  -- what row i misses
-  abbrev pub missedAt : ℕ → ℕ
-  missedAt i =
-      let x = getD firsts i 0 in
-      let y = getD seconds i 0 in
-      let z = getD thirds i 0 in
-      bitOr (bitXor (getD symbols i 0) f) (bitOr (bitXor x (bitAnd x a)) (bitOr (bitXor y (bitAnd y b)) (bitXor z (bitAnd z c))))
-
-  pub scan-more : (i found kept : ℕ) → kept ≡ cond (eqb (missedAt i) 0) (getD targets i 0) 0 → Sofar i found → Sofar (i + 1) (bitOr found kept)
+  -- one more row: its numbers, as read, and what is kept of its target
+  pub scan-more : (i found s o x y z t kept : ℕ) → s ≡ getD table i 0 → o ≡ cond symbols (bitXor s f) 0 → x ≡ getD table (firstAt i) 0 → y ≡ getD table (secondAt i) 0
+      → z ≡ getD table (thirdAt i) 0 → t ≡ getD table (targetAt i) 0 → kept ≡ cond (eqb (missedOf o x a y b z c) 0) t 0 → Sofar i found → Sofar (i + 1) (bitOr found kept)
   unfolding anyBelow fires
-  scan-more i found kept e before q =
-      ap (λ (n : ℕ). has (bitOr found n) q) e ∙ has-more found (getD targets i 0) q (eqb (missedAt i) 0)
-      ∙ ap₂ _||_ (before q)
-      (ap (λ (t : Bool). t && has (getD targets i 0) q) (missed (getD symbols i 0) f (getD firsts i 0) a (getD seconds i 0) b (getD thirds i 0) c))
-      ∙ ap (λ (n : ℕ). anyBelow n (λ j. fires symbols firsts seconds thirds f a b c j && has (getD targets j 0) q)) (sym (add-one i))
+  scan-more i found s o x y z t kept es eo ex ey ez et e before q =
+      ap (λ (n : ℕ). has (bitOr found n) q) e ∙ has-more found t q (eqb (missedOf o x a y b z c) 0)
+      ∙ ap₂ _||_ (before q) (ap₂ _&&_ (missed o x a y b z c ∙ fired) (ap (λ (n : ℕ). has n q) et))
+      ∙ ap (λ (n : ℕ). anyBelow n (λ j. fires symbols table f a b c j && has (getD table (targetAt j) 0) q)) (sym (add-one i))
+    where
+      own : eqb o 0 ≡ cond symbols (eqb (getD table i 0) f) true
+      own = ap (λ (n : ℕ). eqb n 0) eo ∙ other-none symbols s f ∙ ap (λ (n : ℕ). cond symbols (eqb n f) true) es
+
+      fired : (eqb o 0 && (within x a && (within y b && within z c))) ≡ fires symbols table f a b c i
+      fired = ap₂ _&&_ own (ap₂ _&&_ (ap (λ (n : ℕ). within n a) ex) (ap₂ _&&_ (ap (λ (n : ℕ). within n b) ey) (ap (λ (n : ℕ). within n c) ez)))

@@ -9,12 +9,13 @@ use lib.Dec.{ltb}
 use lib.ListN.{length, getD, take, replicate, length-map, List·getD-map, List·getD-eq-default}
 use lib.Seq.{take-all}
 use borrow.Author.Tests.{ltb-true}
+use Rattle.sets.specs.Members.{stateWidth}
 use Rattle.automaton.specs.declared.Row.{Row}
 use Rattle.automaton.specs.declared.Automaton.{Automaton}
-use Rattle.automaton.specs.Held.{Rule, ValidRule, Valid}
+use Rattle.automaton.specs.Held.{Rule, ValidRule, Valid, mostSymbols, mostArity, mostRows}
 use Rattle.ground.specs.Lists.{firsts}
 use Rattle.automaton.specs.Answers.{unusedRow, ruleHeld, heldBy}
-use Rattle.trees.specs.Columns.{need}
+use Rattle.trees.specs.Columns.{need, needAt}
 use Rattle.ground.proofs.Lists.{getD-inside, all-at, getD-firsts, length-firsts}
 
 -- the row at an index, as the code reads it
@@ -43,6 +44,9 @@ module _ (a : Automaton) where
   module _ (i : ℕ) (h : i < a .count) where
     pub row-inside : i < length (heldBy a .rules)
     row-inside = omega (arith, so-many-rows)
+
+    pub row-small : Valid (heldBy a) → i < mostRows
+    row-small v = omega (arith, so-many-rows, v .few-rules)
 
     rule-at : ruleAt a i ≡ ruleHeld (heldBy a .arities) (getD (a .rows) i unusedRow)
     unfolding ruleAt heldBy
@@ -76,10 +80,10 @@ module _ (a : Automaton) where
       pub known-at : rowAt a i .symbol < a .symbols
       known-at = omega (arith, valid-at .known, so-many-symbols, symbol-at)
 
-      pub symbol-small : rowAt a i .symbol < 32
+      pub symbol-small : rowAt a i .symbol < mostSymbols
       symbol-small = omega (arith, known-at, so-many-symbols, v .few-symbols)
 
-      pub aimed-at : rowAt a i .target < 16
+      pub aimed-at : rowAt a i .target < stateWidth
       aimed-at = omega (arith, valid-at .aimed, v .few-states, target-at)
 
       pub suited-at : length (ruleAt a i .sources) ≡ getD (a .arities) (rowAt a i .symbol) 0
@@ -95,20 +99,20 @@ module _ (a : Automaton) where
           ap (λ (l : List ℕ). getD l place 0) e ∙ getD-firsts k 0 (row .sources) place 0 (omega (arith, suited-at))
           ∙ same-number (λ r. getD (r .sources) place 0) (zeros place) refl
         where
-          zeros : (p : ℕ) → _≡_ {A = ℕ} (getD (replicate 3 0) p 0) 0
+          zeros : (p : ℕ) → _≡_ {A = ℕ} (getD (replicate mostArity 0) p 0) 0
           zeros zero = refl
           zeros (suc zero) = refl
           zeros (suc (suc zero)) = refl
           zeros (suc (suc (suc p))) = refl
 
-      pub source-small : (place : ℕ) → place < getD (a .arities) (rowAt a i .symbol) 0 → getD (rowAt a i .sources) place 0 < 16
+      pub source-small : (place : ℕ) → place < getD (a .arities) (rowAt a i .symbol) 0 → getD (rowAt a i .sources) place 0 < stateWidth
       source-small place l =
           let h : getD (ruleAt a i .sources) place 0 < heldBy a .states = all-at (λ q. q < heldBy a .states) (ruleAt a i .sources) (valid-at .sourced) place 0 (omega (arith, suited-at)) in
           omega (arith, h, v .few-states, source-at place l)
 
       -- what a row needs at a child place, as the code computes it
-      pub need-at : (place : ℕ) → need place (ruleAt a i) ≡ cond (ltb place (getD (a .arities) (rowAt a i .symbol) 0)) (2 ^ getD (rowAt a i .sources) place 0) 0
-      unfolding need
+      pub need-at : (place : ℕ) → need place (ruleAt a i) ≡ needAt (rowAt a i .sources) (getD (a .arities) (rowAt a i .symbol) 0) place
+      unfolding needAt
       need-at place = rw suited-at (go (ltb place (getD (a .arities) (rowAt a i .symbol) 0)) refl)
         where
           go : (b : Bool) → ltb place (getD (a .arities) (rowAt a i .symbol) 0) ≡ b → cond b (2 ^ getD (ruleAt a i .sources) place 0) 0 ≡ cond b (2 ^ getD (rowAt a i .sources) place 0) 0

@@ -3,14 +3,16 @@
 use Prim.Native.Nat.{ℕ}
 use mathlib.Core.Bool.{Bool, true, false, cond, _&&_}
 use mathlib.Core.List.{List, [], _∷_}
+use mathlib.Core.Path.{_≡_}
 use lib.Dec.{leb, ltb, eqb}
 use lib.ListN.{length, take, drop}
 use Rattle.sets.specs.Members.{has, setOf, stateWidth}
 use Rattle.automaton.specs.Refusals.{refusal, noRefusal}
-use Rattle.automaton.specs.Held.{Rule, Held}
+use Rattle.automaton.specs.Held.{Rule, Held, Valid}
 use Rattle.trees.specs.declared.ReachedStates.{ReachedStates}
 use Rattle.trees.specs.Words.{arityIn, mostWords}
 use Rattle.trees.specs.Promises.{noRun}
+use Rattle.trees.specs.Columns.{Tabled}
 use Rattle.ground.specs.Lists.{anyOf, anyBelow}
 
 -- have two sets of states a member in common?
@@ -55,12 +57,21 @@ pileOf held (f ∷ words) = put held f (pileOf held words)
 unfoldable pub runTo : ℕ → ℕ → ReachedStates
 runTo finals x = record { refusal = noRefusal; states = record { 0 = x }; yes = meets x finals }
 
+-- so many trees are left, the last of which reaches the set x: the run of one tree, or none
+unfoldable pub treesAnswer : (finals trees x : ℕ) → ReachedStates
+treesAnswer finals trees x = cond (eqb trees 1) (runTo finals x) (noRun (refusal 7))
+
 -- one tree is left, or not
 unfoldable pub pileAnswer : Held → Pile → ReachedStates
 pileAnswer held broken = noRun (refusal 7)
 pileAnswer held (pile []) = noRun (refusal 7)
 pileAnswer held (pile (x ∷ [])) = runTo (held .finals) x
 pileAnswer held (pile (x ∷ (y ∷ sets))) = noRun (refusal 7)
+
+-- the words leave so many trees, the last of which reaches the set x, in every automaton that declares these arities and whose rows the table has
+abbrev pub Climbed : (arities table words : List ℕ) (trees x : ℕ) → Type 0
+Climbed arities table words trees x =
+    (held : Held) → Valid held → held .arities ≡ arities → Tabled (held .rules) table → pileAnswer held (pileOf held words) ≡ treesAnswer (held .finals) trees x
 
 unfoldable pub wordsAnswer : Held → List ℕ → ReachedStates
 wordsAnswer held words = cond (leb (length words) mostWords) (pileAnswer held (pileOf held words)) (noRun (refusal 7))

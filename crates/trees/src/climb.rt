@@ -1,19 +1,22 @@
 // A tree's words are read once, from the right end, with a pile of sets: each symbol takes the sets of its subtrees off the pile and puts its own on it.
 use crate::ReachedStates;
-use crate::columns::leaves;
+use crate::columns::LEAVES;
 use crate::columns::table;
+use crate::scan::at;
 use crate::scan::scan;
 use automaton::Automaton;
 use automaton::Refusal;
+use automaton::SYMBOL_PLACES;
 use sets::StateSet;
 ghost use mathlib.Core.Path.{_≡_};
-ghost use Prim.Native.Nat.{_≤_};
-ghost use lib.ListN.{length};
-ghost use Rattle.automaton.specs.Held.{Valid};
+ghost use Prim.Native.Nat.{_+_, _<_, _≤_};
+ghost use lib.ListN.{length, getD};
+ghost use Rattle.automaton.specs.Held.{Valid, mostSymbols};
 ghost use Rattle.automaton.specs.Answers.{heldBy};
-ghost use Rattle.trees.specs.Words.{mostWords};
+ghost use Rattle.ground.specs.Lists.{firsts};
 ghost use Rattle.trees.specs.Promises.{noRun};
-ghost use Rattle.trees.specs.Piles.{pileOf, pileAnswer, runTo, wordsAnswer};
+ghost use Rattle.trees.specs.Columns.{tablePlaces, SetOver};
+ghost use Rattle.trees.specs.Piles.{pileOf, treesAnswer, pileAnswer, Climbed, wordsAnswer};
 
 // The places of the store for a small tree.
 const SMALL: usize = 64;
@@ -32,10 +35,13 @@ pub fn refused(refusal: Refusal) -> ReachedStates
     }
 }
 
-// The run of a tree that reaches this set.
-fn reached(finals: StateSet, set: u16) -> ReachedStates
-    ensures { λ r. ⌜ r ≡ runTo (finals .0) set ⌝ }
+// The run of words that leave so many trees, the last of which reaches this set: they are one tree exactly where one is left.
+fn reached(finals: StateSet, trees: usize, set: u16) -> ReachedStates
+    ensures { λ r. ⌜ r ≡ treesAnswer (finals .0) trees set ⌝ }
 {
+    if trees != 1 {
+        return refused(Refusal::NO_TREE);
+    }
     ReachedStates {
         refusal: Refusal::DONE,
         states: StateSet(set),
@@ -43,87 +49,82 @@ fn reached(finals: StateSet, set: u16) -> ReachedStates
     }
 }
 
-// The run of the words, with the pile in lent places: the words are one tree exactly where one set is left at the end.
-// The first subtree's set is on top; of the three places looked at, those that the symbol does not have are in no row's need.
-fn climb(a: Automaton, words: &[u16], pile: &mut [u16]) -> ReachedStates
-    requires { ⌜ Valid (heldBy a) ⌝ }
-    requires { ⌜ length (now words) ≤ length (now pile) ⌝ }
-    ensures { λ r. ⌜ r ≡ pileAnswer (heldBy a) (pileOf (heldBy a) (now (words .entry))) ⌝ }
+// The set that a symbol reaches. Those of its subtrees stand on the pile from `base` on, the first on top.
+// Of the three places looked at, those that the symbol does not have are in no row's need.
+fn over<'a>(t: &'a [u16], f: u16, arity: usize, pile: &'a [u16], base: usize) -> u16
+    requires { ⌜ f < mostSymbols ⌝ }
+    requires { ⌜ base + arity ≤ length (now pile) ⌝ }
+    requires { ⌜ tablePlaces ≤ length (now t) ⌝ }
+    ensures { λ r. ⌜ SetOver (now (t .entry)) f arity (now (pile .entry)) base r ⌝ }
 {
-    let t = table(a);
-    let leaf = leaves(a);
-    let known = a.symbols as usize;
+    if arity == 0 {
+        return at(t, LEAVES + f as usize);
+    }
+    let last = arity - 1;
+    let first = at(pile, base + last);
+    let second = at(pile, base + last / 2);
+    let third = at(pile, base);
+    scan(t, true, f, first, second, third)
+}
+
+// How many trees the words are, of symbols with these arities; their sets stand on the pile, the first tree's on top. None where a symbol is unknown or finds too few subtrees.
+fn climb(
+    symbols: u8,
+    arities: [u8; SYMBOL_PLACES],
+    t: &[u16],
+    words: &[u16],
+    pile: &mut [u16],
+) -> usize
+    requires { ⌜ symbols ≤ mostSymbols ⌝ }
+    requires { ⌜ tablePlaces ≤ length (now t) ⌝ }
+    requires { ⌜ length (now words) ≤ length (now pile) ⌝ }
+    ensures { λ r. ⌜ Climbed (firsts symbols 0 arities) (now (t .entry)) (now (words .entry)) r (getD (now (pile .exit)) 0 0) ⌝ }
+{
     let mut depth: usize = 0;
     let mut i = words.len();
     while 0 < i {
         i -= 1;
-        let f = words[i];
-        let symbol = f as usize;
-        if known <= symbol {
-            return refused(Refusal::NO_TREE);
+        let f = at(words, i);
+        if symbols as u16 <= f {
+            return 0;
         }
-        let arity = a.arities[symbol] as usize;
+        let arity = arities[f as usize] as usize;
         if depth < arity {
-            return refused(Refusal::NO_TREE);
+            return 0;
         }
-        let base = depth - arity;
-        depth = base + 1;
-        if arity == 0 {
-            pile[base] = leaf[symbol];
-        } else {
-            let first = pile[base + (arity - 1)];
-            let second = pile[base + (arity - 1) / 2];
-            let third = pile[base];
-            pile[base] = scan(
-                &t.symbols,
-                &t.firsts,
-                &t.seconds,
-                &t.thirds,
-                &t.targets,
-                f,
-                first,
-                second,
-                third,
-            );
-        }
+        depth -= arity;
+        pile[depth] = over(t, f, arity, pile, depth);
+        depth += 1;
     }
-    if depth == 1 {
-        reached(a.finals, pile[0])
-    } else {
-        refused(Refusal::NO_TREE)
-    }
+    depth
 }
 
-// With room for a small tree: the less there is, the less is cleared.
-fn in_small(a: Automaton, words: &[u16]) -> ReachedStates
+// The run of the words, with the pile in lent places.
+fn in_store(a: Automaton, words: &[u16], pile: &mut [u16]) -> ReachedStates
     requires { ⌜ Valid (heldBy a) ⌝ }
-    requires { ⌜ length (now words) ≤ 64 ⌝ }
+    requires { ⌜ length (now words) ≤ length (now pile) ⌝ }
+    requires { ⌜ 1 ≤ length (now pile) ⌝ }
     ensures { λ r. ⌜ r ≡ pileAnswer (heldBy a) (pileOf (heldBy a) (now (words .entry))) ⌝ }
 {
-    let mut pile = [0u16; SMALL];
-    climb(a, words, &mut pile)
+    let t = table(a);
+    let arities = a.arities;
+    let trees = climb(a.symbols, arities, &t, words, pile);
+    reached(a.finals, trees, pile[0])
 }
 
-fn in_large(a: Automaton, words: &[u16]) -> ReachedStates
-    requires { ⌜ Valid (heldBy a) ⌝ }
-    requires { ⌜ length (now words) ≤ mostWords ⌝ }
-    ensures { λ r. ⌜ r ≡ pileAnswer (heldBy a) (pileOf (heldBy a) (now (words .entry))) ⌝ }
-{
-    let mut pile = [0u16; LARGE];
-    climb(a, words, &mut pile)
-}
-
-// The answer for any words. More words than the store has places are more than a tree may have.
+// The answer for any words. For a small tree the store is small: the less there is, the less is cleared.
 pub fn answer(a: Automaton, words: &[u16]) -> ReachedStates
     requires { ⌜ Valid (heldBy a) ⌝ }
     ensures { λ r. ⌜ r ≡ wordsAnswer (heldBy a) (now (words .entry)) ⌝ }
 {
-    if LARGE < words.len() {
-        return refused(Refusal::NO_TREE);
+    let count = words.len();
+    if count <= SMALL {
+        let mut pile = [0u16; SMALL];
+        return in_store(a, words, &mut pile);
     }
-    if words.len() <= SMALL {
-        in_small(a, words)
-    } else {
-        in_large(a, words)
+    if count <= LARGE {
+        let mut pile = [0u16; LARGE];
+        return in_store(a, words, &mut pile);
     }
+    refused(Refusal::NO_TREE)
 }

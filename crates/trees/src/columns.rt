@@ -1,71 +1,76 @@
-// The rows of an automaton, put into columns once for each call.
+// The rows of an automaton as one table of numbers, made once for each call: columns with a place for each row, and then a place for each symbol.
 use automaton::Automaton;
+use automaton::ROW_PLACES;
+use automaton::Row;
+use automaton::SOURCE_PLACES;
+use automaton::SYMBOL_PLACES;
 ghost use mathlib.Core.Path.{_≡_};
-ghost use mathlib.Core.Bool.{cond};
-ghost use Prim.Native.Nat.{_<_, _^_};
-ghost use lib.Dec.{ltb};
-ghost use Rattle.automaton.specs.Held.{Valid};
+ghost use Prim.Native.Nat.{ℕ, _<_};
+ghost use lib.ListN.{getD};
+ghost use Rattle.sets.specs.Members.{stateWidth};
+ghost use Rattle.automaton.specs.Held.{Valid, mostSymbols, mostArity, mostRows};
 ghost use Rattle.automaton.specs.Answers.{heldBy};
-ghost use Rattle.trees.specs.Columns.{Tabled, Targets};
+ghost use Rattle.trees.specs.Columns.{needAt, entered, Tabled};
 
-// A place for each row: its symbol, the set that it needs at each child place (empty where the place is absent), and the set of its target alone.
-pub struct Columns {
-    pub symbols: [u16; 64],
-    pub firsts: [u16; 64],
-    pub seconds: [u16; 64],
-    pub thirds: [u16; 64],
-    pub targets: [u16; 64],
-}
+// Where the columns begin: first that of the rows' symbols, then those of the sets that the rows need at each child place (empty where the place is absent), then that of the sets of their targets alone.
+pub const FIRSTS: usize = ROW_PLACES;
 
-// The set that a row with so many sources needs at a place, whose source is `q`.
-fn needed(arity: u8, place: u8, q: u8) -> u16
-    requires { ⌜ (place < arity → q < 16) ⌝ }
-    ensures { λ r. ⌜ r ≡ cond (ltb place arity) (2 ^ q) 0 ⌝ }
+pub const SECONDS: usize = 2 * ROW_PLACES;
+
+pub const THIRDS: usize = 3 * ROW_PLACES;
+
+pub const TARGETS: usize = 4 * ROW_PLACES;
+
+// After the columns, for each symbol the set that it reaches as a leaf.
+pub const LEAVES: usize = 5 * ROW_PLACES;
+
+const PLACES: usize = LEAVES + SYMBOL_PLACES;
+
+// The set that a row with these sources, of which so many count, needs at a child place: of its source there; empty where the place is absent.
+fn needed(sources: [u8; SOURCE_PLACES], arity: u8, place: usize) -> u16
+    requires { ⌜ place < mostArity ⌝ }
+    requires { ⌜ (place < arity → getD sources place 0 < stateWidth) ⌝ }
+    ensures { λ r. ⌜ r ≡ needAt sources arity place ⌝ }
 {
-    if place < arity { 1 << q } else { 0 }
+    if place < arity as usize {
+        1 << sources[place]
+    } else {
+        0
+    }
 }
 
-// The columns of an automaton's rows.
-pub fn table(a: Automaton) -> Columns
+// One row more in the table: its numbers in the columns, and its target joined to the set of its symbol.
+fn enter(t: &mut [u16; PLACES], i: usize, row: Row, arity: u8)
+    requires { ⌜ i < mostRows ⌝ }
+    requires { ⌜ row .symbol < mostSymbols ⌝ }
+    requires { ⌜ row .target < stateWidth ⌝ }
+    requires { ⌜ ((place : ℕ) → place < arity → getD (row .sources) place 0 < stateWidth) ⌝ }
+    ensures { λ r. ⌜ now (t .exit) ≡ entered i row arity (now (t .entry)) ⌝ }
+{
+    t[i] = row.symbol as u16;
+    let sources = row.sources;
+    t[FIRSTS + i] = needed(sources, arity, 0);
+    t[SECONDS + i] = needed(sources, arity, 1);
+    t[THIRDS + i] = needed(sources, arity, 2);
+    let bit: u16 = 1 << row.target;
+    t[TARGETS + i] = bit;
+    let own = LEAVES + row.symbol as usize;
+    t[own] = t[own] | bit;
+}
+
+// The table of an automaton's rows. For each symbol it has the targets of its rows: the reached set of a leaf, where the symbol is one.
+pub fn table(a: Automaton) -> [u16; PLACES]
     requires { ⌜ Valid (heldBy a) ⌝ }
     ensures { λ r. ⌜ Tabled (heldBy a .rules) r ⌝ }
 {
-    let mut t = Columns {
-        symbols: [0; 64],
-        firsts: [0; 64],
-        seconds: [0; 64],
-        thirds: [0; 64],
-        targets: [0; 64],
-    };
+    let mut t = [0u16; PLACES];
     let count = a.count as usize;
     let mut i: usize = 0;
     while i < count {
         let row = a.rows[i];
         let symbol = row.symbol as usize;
-        let arity = a.arities[symbol];
-        t.symbols[i] = row.symbol as u16;
-        t.firsts[i] = needed(arity, 0, row.sources[0]);
-        t.seconds[i] = needed(arity, 1, row.sources[1]);
-        t.thirds[i] = needed(arity, 2, row.sources[2]);
-        t.targets[i] = 1 << row.target;
+        enter(&mut t, i, row, a.arities[symbol]);
         i += 1;
     }
     t
-}
-
-// For each symbol, the targets of its rows: the reached set of a leaf, where the symbol is one.
-pub fn leaves(a: Automaton) -> [u16; 32]
-    requires { ⌜ Valid (heldBy a) ⌝ }
-    ensures { λ r. ⌜ Targets (heldBy a .rules) r ⌝ }
-{
-    let mut sets = [0u16; 32];
-    let count = a.count as usize;
-    let mut i: usize = 0;
-    while i < count {
-        let row = a.rows[i];
-        let symbol = row.symbol as usize;
-        sets[symbol] = sets[symbol] | (1 << row.target);
-        i += 1;
-    }
-    sets
 }

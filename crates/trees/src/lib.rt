@@ -28,12 +28,10 @@ pub fn run(file: &[u8], words: &[u16]) -> ReachedStates
     ensures { λ r. ⌜ RunPromise (now (file .entry)) (now (words .entry)) r ⌝ }
 {
     let reading = automaton::read(file);
-    let refusal = reading.refusal;
-    if refusal.number != 0 {
-        return climb::refused(refusal);
+    if reading.refusal.number != 0 {
+        return climb::refused(reading.refusal);
     }
-    let a = reading.automaton;
-    climb::answer(a, words)
+    climb::answer(reading.automaton, words)
 }
 
 // The productive states of the file's automaton.
@@ -41,10 +39,8 @@ pub fn productive(file: &[u8]) -> ProductiveStates
     ensures { λ r. ⌜ ProductivePromise (now (file .entry)) r ⌝ }
 {
     let reading = automaton::read(file);
-    let refusal = reading.refusal;
-    if refusal.number != 0 {
-        return rounds::refused(refusal);
+    if reading.refusal.number != 0 {
+        return rounds::refused(reading.refusal);
     }
-    let a = reading.automaton;
-    rounds::answer(a)
+    rounds::answer(reading.automaton)
 }

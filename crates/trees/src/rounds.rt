@@ -21,26 +21,15 @@ pub fn refused(refusal: Refusal) -> ProductiveStates
     }
 }
 
-// In each round a row adds its target where all of its sources are there. Symbols do not count: every row is scanned as one of symbol 0.
+// In each round a row adds its target where all of its sources are there. Symbols do not count.
 fn rounds(a: Automaton) -> u16
     requires { ⌜ Valid (heldBy a) ⌝ }
     ensures { λ r. ⌜ ProductiveSet (heldBy a .rules) r ⌝ }
 {
     let t = table(a);
-    let symbols = [0u16; 64];
     let mut have: u16 = 0;
     loop {
-        let more = scan(
-            &symbols,
-            &t.firsts,
-            &t.seconds,
-            &t.thirds,
-            &t.targets,
-            0,
-            have,
-            have,
-            have,
-        );
+        let more = scan(&t, false, 0, have, have, have);
         let next = have | more;
         if next == have {
             return have;

@@ -4,21 +4,13 @@ ghost use Rattle.worked.specs.Lent.{FewWords, Bytes};
 use crate::files;
 use crate::say;
 use crate::texts;
-use expressions::Shape;
 
 // One node put at this number into so many words: its kind, its label and its first child.
 pub fn make(title: usize, room: usize, count: usize, kind: u32, label: u32, first: u32)
     requires { ⌜ FewWords room ⌝ }
 {
     let mut words = [1234567u32; 13];
-    let shape = Shape {
-        kind,
-        label,
-        first,
-        second: 0,
-        third: 0,
-    };
-    let r = expressions::make(&mut words[..room], count, shape);
+    let r = expressions::make(&mut words[..room], count, kind, label, first, 0, 0);
     texts::plain(title);
     texts::write(texts::MADE, r.number, count, 0, 0, 0, 0);
     say::words(words, room)
@@ -93,14 +85,7 @@ pub fn measure_doubled(count: usize)
     let mut label: u32 = 0;
     let mut before: u32 = 0;
     while i < count {
-        let shape = Shape {
-            kind: 2,
-            label,
-            first: before,
-            second: before,
-            third: 0,
-        };
-        expressions::make(&mut words, i, shape);
+        expressions::make(&mut words, i, 2, label, before, before, 0);
         label = 513;
         before = i as u32;
         i += 1;

@@ -5,7 +5,6 @@ use Rattle.automaton.proofs.no_rows.Tie as tie
 use Rattle.automaton.proofs.no_rows.Reads as reads
 use Rattle.automaton.proofs.no_rows.Lts as lts
 
--- src/lib.rt:51:1
 returns : tie.Need-returns
 unfolding unusedRow
 returns c = refl

@@ -11,43 +11,33 @@ use Rattle.automaton.proofs.reader.rows_of.Reads as rows-of-reads
 use Rattle.automaton.proofs.reader.symbols_of.Reads as symbols-of-reads
 use Rattle.automaton.proofs.refused.Reads as refused-reads
 
--- src/lib.rt:69:9
 head-of-requires : tie.Need-head-of-requires
 head-of-requires c κs = search needs
 
--- src/lib.rt:71:9
 refused-requires : tie.Need-refused-requires
 refused-requires c κs = search needs
 
--- src/lib.rt:71:9
 returns : tie.Need-returns
 returns c = c .refused .ensures ∙ head-refused (now (c .before .before .before .before .before .args .file)) (c .before .before .before .head-of .result) (c .before .before .before .head-of .ensures) (c .before .if1 .taken)
 
--- src/lib.rt:73:9
 symbols-of-requires : tie.Need-symbols-of-requires
 symbols-of-requires c κs = c .before .before .head-of .ensures .inside (c .if1 .left)
 
--- src/lib.rt:75:9
 refused-requires-2 : tie.Need-refused-requires-2
 refused-requires-2 c κs = search needs
 
--- src/lib.rt:75:9
 returns-2 : tie.Need-returns-2
 returns-2 c = c .refused2 .ensures ∙ symbols-refused (now (c .before .before .before .before .before .before .before .before .args .file)) (c .before .before .before .before .before .before .head-of .result) (c .before .before .before .before .before .before .head-of .ensures) (c .before .before .before .before .if1 .left) (c .before .before .before .symbols-of .result) (c .before .before .before .symbols-of .ensures) (c .before .if2 .taken)
 
--- src/lib.rt:78:9
 rows-of-requires : tie.Need-rows-of-requires
 rows-of-requires c κs = rows-asked (now (c .before .before .before .before .before .before .before .before .before .args .file)) (c .before .before .before .before .before .before .before .head-of .result) (c .before .before .before .before .before .before .before .head-of .ensures) (c .before .before .before .before .before .if1 .left) (c .before .before .before .before .symbols-of .result) (c .before .before .before .before .symbols-of .ensures) (c .before .before .if2 .left)
 
--- src/lib.rt:80:9
 refused-requires-3 : tie.Need-refused-requires-3
 refused-requires-3 c κs = search needs
 
--- src/lib.rt:80:9
 returns-3 : tie.Need-returns-3
 returns-3 c = c .refused3 .ensures ∙ rows-refused (now (c .before .before .before .before .before .before .before .before .before .before .before .before .before .args .file)) (c .before .before .before .before .before .before .before .before .before .before .before .head-of .result) (c .before .before .before .before .before .before .before .before .before .before .before .head-of .ensures) (c .before .before .before .before .before .before .before .before .before .if1 .left) (c .before .before .before .before .before .before .before .before .symbols-of .result) (c .before .before .before .before .before .before .before .before .symbols-of .ensures) (c .before .before .before .before .before .before .if2 .left) (c .before .before .before .rows-of .result) (c .before .before .before .rows-of .ensures) (c .before .if3 .taken)
 
--- src/lib.rt:66:1
 returns-4 : tie.Need-returns-4
 returns-4 c = all-read (now (c .before .before .before .before .before .before .before .before .before .before .before .before .before .args .file)) (c .before .before .before .before .before .before .before .before .before .before .before .head-of .result) (c .before .before .before .before .before .before .before .before .before .before .before .head-of .ensures) (c .before .before .before .before .before .before .before .before .before .if1 .left) (c .before .before .before .before .before .before .before .before .symbols-of .result) (c .before .before .before .before .before .before .before .before .symbols-of .ensures) (c .before .before .before .before .before .before .if2 .left) (c .before .before .before .rows-of .result) (c .before .before .before .rows-of .ensures) (c .before .if3 .left)
 

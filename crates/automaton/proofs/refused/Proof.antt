@@ -7,15 +7,12 @@ use Rattle.automaton.proofs.refused.Lts as lts
 use Rattle.automaton.proofs.no_arities.Reads as no-arities-reads
 use Rattle.automaton.proofs.no_rows.Reads as no-rows-reads
 
--- src/lib.rt:66:9
 no-arities-requires : tie.Need-no-arities-requires
 no-arities-requires c κs = search needs
 
--- src/lib.rt:67:9
 no-rows-requires : tie.Need-no-rows-requires
 no-rows-requires c κs = search needs
 
--- src/lib.rt:63:1
 returns : tie.Need-returns
 unfolding noAutomaton
 returns c = rw (c .before .no-arities .ensures, c .no-rows .ensures)

@@ -8,23 +8,18 @@ use Rattle.expressions.proofs.is_sound.Tie as tie
 returns : tie.Need-returns
 returns c = decides-no (λ s. omega arith)
 
--- src/lib.rt:90:22
 mul-if2 : tie.Need-mul-if2
 mul-if2 c = search needs
 
--- src/lib.rt:91:9
 returns-2 : tie.Need-returns-2
 returns-2 c = decides-no (λ s. omega arith)
 
--- src/lib.rt:94:9
 returns-3 : tie.Need-returns-3
 returns-3 c = decides-no (λ s. omega arith)
 
--- src/lib.rt:96:5
 all-sound-requires : tie.Need-all-sound-requires
 all-sound-requires c κs = search needs
 
--- src/lib.rt:84:1
 returns-4 : tie.Need-returns-4
 returns-4 c = decides-as (c .all-sound .ensures) (λ k. record { some = omega arith; few = omega arith; roomy = omega arith; within = omega arith; kept = k }) (λ s. s .kept)
 

@@ -9,11 +9,9 @@ use Rattle.expressions.proofs.node_at.Tie as tie
 node-at-requires : tie.Need-node-at-requires
 node-at-requires c κs = search needs
 
--- src/lib.rt:78:9
 returns : tie.Need-returns
 returns c = let a = c .before .before .before .args in c .node-at .ensures ∙ sym (node-whole (a .words .now) (a .i) (omega arith))
 
--- src/lib.rt:74:1
 returns-2 : tie.Need-returns-2
 returns-2 c = let a = c .before .before .args in sym (node-past (a .words .now) (a .i) (omega arith))
 

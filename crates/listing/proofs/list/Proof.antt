@@ -10,32 +10,26 @@ use Rattle.listing.proofs.list.Tie as tie
 is-sound-requires : tie.Need-is-sound-requires
 is-sound-requires c κs = search needs
 
--- src/lib.rt:19:9
 returns : tie.Need-returns
 returns c =
     let a = c .before .before .before .before .args in
     lists-unsound (a .words .now) (a .count) (a .answer) (a .out .now) (refuted (c .before .is-sound .ensures) (not-true _ (c .if1 .taken)))
 
--- src/lib.rt:24:9
 fits-in-requires : tie.Need-fits-in-requires
 fits-in-requires c κs = c .before .is-sound .ensures .only (not-false _ (c .if1 .left))
 
--- src/lib.rt:25:9
 returns-2 : tie.Need-returns-2
 returns-2 c =
     let a = c .before .before .before .before .before .before .args in
     let n = refuted (c .before .fits-in .ensures) (not-true _ (c .if2 .taken)) in
     lists-short (a .words .now) (a .count) (a .answer) (a .out .now) (c .before .before .before .is-sound .ensures .only (not-false _ (c .before .before .if1 .left))) (omega arith)
 
--- src/lib.rt:30:9
 put-listing-requires : tie.Need-put-listing-requires
 put-listing-requires c κs = (c .before .before .before .before .is-sound .ensures .only (not-false _ (c .before .before .before .if1 .left)), c .before .before .fits-in .ensures .only (not-false _ (c .before .if2 .left)))
 
--- src/lib.rt:15:1
 same-length : tie.Need-same-length
 same-length c = search needs
 
--- src/lib.rt:15:1
 returns-3 : tie.Need-returns-3
 returns-3 c =
     let d = c .before .before .before .before in

@@ -7,32 +7,28 @@ use borrow.Author.Needs.{needs}
 use Rattle.trees.proofs.productive.Statement.{statement}
 use Rattle.trees.proofs.productive.Tie as tie
 
--- src/lib.rt:41:9
 read-requires : tie.Need-read-requires
 read-requires c κs = search needs
 
--- src/lib.rt:44:9
 refused-requires : tie.Need-refused-requires
 refused-requires c κs = search needs
 
--- src/lib.rt:44:9
 returns : tie.Need-returns
 returns c =
-    let file = c .before .before .before .before .before .before .args .file .now in
-    let fault = read-fault file (c .before .before .before .before .read .result) (c .before .before .before .before .read .ensures) (c .before .if1 .taken) in
+    let file = c .before .before .before .before .before .args .file .now in
+    let read = c .before .before .before .read in
+    let fault = read-fault file (read .result) (read .ensures) (c .before .if1 .taken) in
     subst (ProductivePromise file) (sym (c .refused .ensures ∙ ap noStates (fault .given))) (productive-fault file (fault .number) (fault .offset) (fault .in-file))
 
--- src/lib.rt:47:5
 answer-requires : tie.Need-answer-requires
-answer-requires c κs = read-held _ (c .before .before .before .before .read .result) (c .before .before .before .before .read .ensures) (c .before .if1 .left) .handed .valid
+answer-requires c κs = let read = c .before .before .read in read-held _ (read .result) (read .ensures) (c .if1 .left) .handed .valid
 
--- src/lib.rt:38:1
 returns-2 : tie.Need-returns-2
 returns-2 c =
-    let file = c .before .before .before .before .before .before .before .args .file .now in
-    let handed = read-held file (c .before .before .before .before .before .read .result) (c .before .before .before .before .before .read .ensures) (c .before .before .if1 .left) in
+    let file = c .before .before .before .before .before .args .file .now in
+    let read = c .before .before .before .read in
+    let handed = read-held file (read .result) (read .ensures) (c .before .if1 .left) in
     productive-held file (handed .held) _ (handed .in-file) (subst (λ (held : Held). StatesOf held (c .answer .result)) (handed .said) (c .answer .ensures))
 
 pub productive-spec : {M : Type 1} → statement M
-productive-spec =
-    tie.close (tie.spec read-requires refused-requires returns answer-requires returns-2)
+productive-spec = tie.close (tie.spec read-requires refused-requires returns answer-requires returns-2)

@@ -8,27 +8,21 @@ use Rattle.writer.proofs.write.Lts as lts
 use Rattle.writer.proofs.fits.file_size.Reads as file-size-reads
 use Rattle.writer.proofs.puts.put_file.Reads as put-file-reads
 
--- src/lib.rt:177:9
 file-size-requires : tie.Need-file-size-requires
 file-size-requires c κs = search needs
 
--- src/lib.rt:179:9
 returns : tie.Need-returns
 returns c = write-unfit (c .before .before .before .args .value) (now (c .before .before .before .args .out)) (c .before .file-size .result) (c .before .file-size .ensures) (c .if1 .taken)
 
--- src/lib.rt:185:9
 returns-2 : tie.Need-returns-2
 returns-2 c = write-short (c .before .before .before .before .args .value) (now (c .before .before .before .before .args .out)) (c .before .before .file-size .result) (c .before .before .file-size .ensures) (c .before .if1 .left) (c .if2 .taken)
 
--- src/lib.rt:190:5
 put-file-requires : tie.Need-put-file-requires
 put-file-requires c κs = (c .before .before .before .file-size .ensures .long (c .before .before .if1 .left), (c .before .before .before .file-size .ensures .fit (c .before .before .if1 .left), rw (c .before .before .before .file-size .ensures .sized (c .before .before .if1 .left)) at (c .before .if2 .left)))
 
--- src/lib.rt:174:1
 same-length : tie.Need-same-length
 same-length c = search needs
 
--- src/lib.rt:174:1
 returns-3 : tie.Need-returns-3
 returns-3 c = write-done (c .before .before .before .before .before .before .before .before .args .value) (now (c .before .before .before .before .before .before .before .before .args .out)) (c .before .before .before .before .before .before .file-size .result) (c .before .before .before .before .before .before .file-size .ensures) (c .before .before .before .before .before .if1 .left) (c .before .before .before .before .if2 .left) (c .before .before .put-file .last .1 .0) (c .before .before .put-file .ensures)
 

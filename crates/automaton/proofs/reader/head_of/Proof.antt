@@ -11,55 +11,42 @@ use Rattle.automaton.proofs.reader.frame_at.Reads as frame-at-reads
 use Rattle.automaton.proofs.reader.no_head.Reads as no-head-reads
 use Rattle.automaton.proofs.reader.number_at.Reads as number-at-reads
 
--- src/reader.rt:126:9
 frame-at-requires : tie.Need-frame-at-requires
 frame-at-requires c κs = search needs
 
--- src/reader.rt:128:9
 no-head-requires : tie.Need-no-head-requires
 no-head-requires c κs = search needs
 
--- src/reader.rt:128:9
 returns : tie.Need-returns
 returns c = rw (c .no-head .ensures) (head-fault (now (c .before .before .before .before .before .args .file)) (c .before .before .before .frame-at .result) (c .before .before .before .frame-at .ensures) (c .before .if1 .taken))
 
--- src/reader.rt:130:18
 shared-slice-read-states : tie.Need-shared-slice-read-states
 shared-slice-read-states c = omega (arith, head-there (now (c .before .before .before .before .before .args .file)) (c .before .before .before .frame-at .result) (c .before .before .before .frame-at .ensures) (c .before .if1 .left))
 
--- src/reader.rt:131:9
 number-at-requires : tie.Need-number-at-requires
 number-at-requires c κs = omega (arith, head-there (now (c .before .before .before .before .before .args .file)) (c .before .before .before .frame-at .result) (c .before .before .before .frame-at .ensures) (c .before .if1 .left))
 
--- src/reader.rt:133:9
 no-head-requires-2 : tie.Need-no-head-requires-2
 no-head-requires-2 c κs = search needs
 
--- src/reader.rt:133:9
 returns-2 : tie.Need-returns-2
 returns-2 c = rw (c .no-head2 .ensures) (head-few (now (c .before .before .before .before .before .before .before .before .args .file)) (c .before .before .before .before .before .before .frame-at .result) (c .before .before .before .before .before .before .frame-at .ensures) (c .before .before .before .before .if1 .left) (c .before .before .number-at .result) (c .before .before .number-at .ensures) (c .before .if2 .taken))
 
--- src/reader.rt:136:9
 no-head-requires-3 : tie.Need-no-head-requires-3
 no-head-requires-3 c κs = search needs
 
--- src/reader.rt:136:9
 returns-3 : tie.Need-returns-3
 returns-3 c = rw (c .no-head3 .ensures) (head-many (now (c .before .before .before .before .before .before .before .before .before .args .file)) (c .before .before .before .before .before .before .before .frame-at .result) (c .before .before .before .before .before .before .before .frame-at .ensures) (c .before .before .before .before .before .if1 .left) (c .before .before .before .number-at .result) (c .before .before .before .number-at .ensures) (c .before .before .if2 .left) (c .before .if3 .taken))
 
--- src/reader.rt:138:8
 past-requires : tie.Need-past-requires
 past-requires c κs = search needs
 
--- src/reader.rt:139:9
 no-head-requires-4 : tie.Need-no-head-requires-4
 no-head-requires-4 c κs = search needs
 
--- src/reader.rt:139:9
 returns-4 : tie.Need-returns-4
 returns-4 c = rw (c .no-head4 .ensures) (head-past (now (c .before .before .before .before .before .before .before .before .before .before .before .args .file)) (c .before .before .before .before .before .before .before .before .before .frame-at .result) (c .before .before .before .before .before .before .before .before .before .frame-at .ensures) (c .before .before .before .before .before .before .before .if1 .left) (c .before .before .before .before .before .number-at .result) (c .before .before .before .before .before .number-at .ensures) (c .before .before .before .before .if2 .left) (c .before .before .before .if3 .left) (sym (c .before .before .past .ensures) ∙ c .before .if4 .taken))
 
--- src/reader.rt:123:1
 returns-5 : tie.Need-returns-5
 returns-5 c = head-read (now (c .before .before .before .before .before .before .before .before .before .before .args .file)) (c .before .before .before .before .before .before .before .before .frame-at .result) (c .before .before .before .before .before .before .before .before .frame-at .ensures) (c .before .before .before .before .before .before .if1 .left) (c .before .before .before .before .number-at .result) (c .before .before .before .before .number-at .ensures) (c .before .before .before .if2 .left) (c .before .before .if3 .left) (sym (c .before .past .ensures) ∙ c .if4 .left)
 

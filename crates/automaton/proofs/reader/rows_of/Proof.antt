@@ -17,102 +17,83 @@ Inv-loop file start states symbols arities rows₀ count₀ at₀ rows count at 
 abbrev μ-loop : tie.MeasureT-loop
 μ-loop file start states symbols arities rows₀ count₀ at₀ rows count at = length file - at
 
--- src/reader.rt:273:20
 no-rows-requires : tie.Need-no-rows-requires Inv-loop μ-loop
 no-rows-requires c κs = search needs
 
--- src/reader.rt:276:5
 loop-holds : tie.Need-loop-holds Inv-loop μ-loop
 loop-holds c =
     let a = c .before .before .args in
     rw (c .no-rows .ensures) (rows-start (a .file .now) (a .start) (a .states) (a .symbols) (a .arities .now) (c .before .before .pre))
 
--- src/reader.rt:277:13
 frame-at-requires : tie.Need-frame-at-requires Inv-loop μ-loop
 frame-at-requires c κs = search needs
 
--- src/reader.rt:280:13
 returns : tie.Need-returns Inv-loop μ-loop
 returns c =
     let a = c .before .before .before .before .before .args in
     let l = c .before .before .loop in
     rows-fault (a .file .now) (a .start) (a .states) (a .symbols) (a .arities .now) (l .rows) (l .count) (l .at) (l .inv) (c .before .frame-at .result) (c .before .frame-at .ensures) (c .if1 .taken)
 
--- src/reader.rt:283:16
 add-if3 : tie.Need-add-if3 Inv-loop μ-loop
 add-if3 c = search needs
 
--- src/reader.rt:284:17
 returns-2 : tie.Need-returns-2 Inv-loop μ-loop
 returns-2 c =
     let a = c .before .before .before .before .before .before .before .before .args in
     let l = c .before .before .before .before .before .loop in
     rows-after (a .file .now) (a .start) (a .states) (a .symbols) (a .arities .now) (l .rows) (l .count) (l .at) (l .inv) (c .before .before .before .before .frame-at .result) (c .before .before .before .before .frame-at .ensures) (c .before .before .before .if1 .left) (c .before .if2 .taken) (c .if3 .taken)
 
--- src/reader.rt:286:13
 returns-3 : tie.Need-returns-3 Inv-loop μ-loop
 returns-3 c =
     let a = c .before .before .before .before .before .before .before .before .args in
     let l = c .before .before .before .before .before .loop in
     rows-ended (a .file .now) (a .start) (a .states) (a .symbols) (a .arities .now) (l .rows) (l .count) (l .at) (l .inv) (c .before .before .before .before .frame-at .result) (c .before .before .before .before .frame-at .ensures) (c .before .before .before .if1 .left) (c .before .if2 .taken) (c .if3 .left)
 
--- src/reader.rt:289:13
 returns-4 : tie.Need-returns-4 Inv-loop μ-loop
 returns-4 c =
     let a = c .before .before .before .before .before .before .before .before .args in
     let l = c .before .before .before .before .before .loop in
     rows-many (a .file .now) (a .start) (a .states) (a .symbols) (a .arities .now) (l .rows) (l .count) (l .at) (l .inv) (c .before .before .before .before .frame-at .result) (c .before .before .before .before .frame-at .ensures) (c .before .before .before .if1 .left) (c .before .if2 .left) (c .if4 .taken)
 
--- src/reader.rt:291:20
 cast-size : tie.Need-cast-size Inv-loop μ-loop
 cast-size c = search needs
 
--- src/reader.rt:292:13
 row-at-requires : tie.Need-row-at-requires Inv-loop μ-loop
 row-at-requires c κs =
     let a = c .before .before .before .before .before .before .before .before .before .args in
     let l = c .before .before .before .before .before .before .loop in
     (row-two (a .file .now) (a .start) (a .states) (a .symbols) (a .arities .now) (l .rows) (l .count) (l .at) (l .inv) (c .before .before .before .before .before .frame-at .result) (c .before .before .before .before .before .frame-at .ensures) (c .before .before .before .before .if1 .left) (c .before .before .if2 .left), (row-five (a .file .now) (a .start) (a .states) (a .symbols) (a .arities .now) (l .rows) (l .count) (l .at) (l .inv) (c .before .before .before .before .before .frame-at .result) (c .before .before .before .before .before .frame-at .ensures) (c .before .before .before .before .if1 .left) (c .before .before .if2 .left), (row-there (a .file .now) (a .start) (a .states) (a .symbols) (a .arities .now) (l .rows) (l .count) (l .at) (l .inv) (c .before .before .before .before .before .frame-at .result) (c .before .before .before .before .before .frame-at .ensures) (c .before .before .before .before .if1 .left) (c .before .before .if2 .left), c .before .before .before .before .before .before .before .before .before .pre .few)))
 
--- src/reader.rt:295:13
 returns-5 : tie.Need-returns-5 Inv-loop μ-loop
 returns-5 c =
     let a = c .before .before .before .before .before .before .before .before .before .before .before .args in
     let l = c .before .before .before .before .before .before .before .before .loop in
     rows-wrong (a .file .now) (a .start) (a .states) (a .symbols) (a .arities .now) (l .rows) (l .count) (l .at) (l .inv) (c .before .before .before .before .before .before .before .frame-at .result) (c .before .before .before .before .before .before .before .frame-at .ensures) (c .before .before .before .before .before .before .if1 .left) (c .before .before .before .before .if2 .left) (c .before .before .before .if4 .left) (c .before .row-at .result) (c .before .row-at .ensures) (c .if5 .taken)
 
--- src/reader.rt:298:14
 cast-rows : tie.Need-cast-rows Inv-loop μ-loop
 cast-rows c = search needs
 
--- src/reader.rt:298:9
 mul-rows : tie.Need-mul-rows Inv-loop μ-loop
 mul-rows c = search needs
 
--- src/reader.rt:298:9
 array-set-from-rows : tie.Need-array-set-from-rows Inv-loop μ-loop
 array-set-from-rows c = search needs
 
--- src/reader.rt:299:9
 add-count : tie.Need-add-count Inv-loop μ-loop
 add-count c = search needs
 
--- src/reader.rt:300:15
 add-at : tie.Need-add-at Inv-loop μ-loop
 add-at c = search needs
 
--- src/reader.rt:300:9
 add-at-2 : tie.Need-add-at-2 Inv-loop μ-loop
 add-at-2 c = search needs
 
--- src/reader.rt:276:5
 loop-less : tie.Need-loop-less Inv-loop μ-loop
 loop-less c =
     let a = c .before .before .before .before .before .before .before .before .before .before .before .before .args in
     let l = c .before .before .before .before .before .before .before .before .before .loop in
     omega (arith, row-there (a .file .now) (a .start) (a .states) (a .symbols) (a .arities .now) (l .rows) (l .count) (l .at) (l .inv) (c .before .before .before .before .before .before .before .before .frame-at .result) (c .before .before .before .before .before .before .before .before .frame-at .ensures) (c .before .before .before .before .before .before .before .if1 .left) (c .before .before .before .before .before .if2 .left))
 
--- src/reader.rt:276:5
 loop-again : tie.Need-loop-again Inv-loop μ-loop
 loop-again c =
     let a = c .before .before .before .before .before .before .before .before .before .before .before .before .args in

@@ -12,45 +12,36 @@ Inv-loop file at arity states places₀ i₀ places i = SourcesSoFar file at ari
 abbrev μ-loop : tie.MeasureT-loop
 μ-loop file at arity states places₀ i₀ places i = arity - i
 
--- src/reader.rt:202:5
 loop-holds : tie.Need-loop-holds Inv-loop μ-loop
 loop-holds c = sources-start (c .args .file .now) (c .args .at) (c .args .arity) (c .args .states)
 
--- src/reader.rt:203:26
 add-state : tie.Need-add-state Inv-loop μ-loop
 add-state c = omega arith
 
--- src/reader.rt:203:21
 shared-slice-read-state : tie.Need-shared-slice-read-state Inv-loop μ-loop
 shared-slice-read-state c = omega arith
 
--- src/reader.rt:205:13
 returns : tie.Need-returns Inv-loop μ-loop
 returns c =
     let a = c .before .before .before .before .args in
     let l = c .before .before .before .loop in
     sources-bad (a .file .now) (a .at) (a .arity) (a .states) (c .before .before .before .before .pre .0) (c .before .before .before .before .pre .1) (l .places) (l .i) (l .inv) (c .before .before .loop-test .taken) (c .if1 .taken)
 
--- src/reader.rt:207:9
 array-write-places : tie.Need-array-write-places Inv-loop μ-loop
 array-write-places c = omega arith
 
--- src/reader.rt:208:9
 add-i : tie.Need-add-i Inv-loop μ-loop
 add-i c = omega arith
 
--- src/reader.rt:202:5
 loop-less : tie.Need-loop-less Inv-loop μ-loop
 loop-less c = omega arith
 
--- src/reader.rt:202:5
 loop-again : tie.Need-loop-again Inv-loop μ-loop
 loop-again c =
     let a = c .before .before .before .before .args in
     let l = c .before .before .before .loop in
     sources-next (a .file .now) (a .at) (a .arity) (a .states) (c .before .before .before .before .pre .0) (c .before .before .before .before .pre .1) (l .places) (l .i) (l .inv) (c .before .before .loop-test .taken) (c .if1 .left)
 
--- src/reader.rt:196:1
 returns-2 : tie.Need-returns-2 Inv-loop μ-loop
 returns-2 c =
     let a = c .before .before .args in

@@ -16,75 +16,60 @@ Inv-loop file arities₀ count₀ at₀ arities count at = SymbolsSoFar file ari
 abbrev μ-loop : tie.MeasureT-loop
 μ-loop file arities₀ count₀ at₀ arities count at = length file - at
 
--- src/reader.rt:171:23
 no-arities-requires : tie.Need-no-arities-requires Inv-loop μ-loop
 no-arities-requires c κs = search needs
 
--- src/reader.rt:174:5
 loop-holds : tie.Need-loop-holds Inv-loop μ-loop
 loop-holds c = rw (c .no-arities .ensures) (symbols-start (c .before .before .args .file .now) (c .before .before .pre))
 
--- src/reader.rt:175:13
 frame-at-requires : tie.Need-frame-at-requires Inv-loop μ-loop
 frame-at-requires c κs = c .loop .inv .within
 
--- src/reader.rt:178:13
 returns : tie.Need-returns Inv-loop μ-loop
 returns c =
     let l = c .before .before .loop in
     symbols-fault (c .before .before .before .before .before .args .file .now) (l .arities) (l .count) (l .at) (l .inv) (c .before .frame-at .result) (c .before .frame-at .ensures) (c .if1 .taken)
 
--- src/reader.rt:181:13
 returns-2 : tie.Need-returns-2 Inv-loop μ-loop
 returns-2 c =
     let l = c .before .before .before .before .loop in
     symbols-done (c .before .before .before .before .before .before .before .args .file .now) (l .arities) (l .count) (l .at) (l .inv) (c .before .before .before .frame-at .result) (c .before .before .before .frame-at .ensures) (c .before .before .if1 .left) (c .if2 .taken)
 
--- src/reader.rt:183:26
 add-arity : tie.Need-add-arity Inv-loop μ-loop
 add-arity c = search needs
 
--- src/reader.rt:183:21
 shared-slice-read-arity : tie.Need-shared-slice-read-arity Inv-loop μ-loop
 shared-slice-read-arity c =
     let l = c .before .before .before .before .before .loop in
     omega (arith, symbols-there (c .before .before .before .before .before .before .before .before .args .file .now) (l .arities) (l .count) (l .at) (l .inv) (c .before .before .before .before .frame-at .result) (c .before .before .before .before .frame-at .ensures) (c .before .before .before .if1 .left) (c .before .if2 .left))
 
--- src/reader.rt:185:13
 returns-3 : tie.Need-returns-3 Inv-loop μ-loop
 returns-3 c =
     let l = c .before .before .before .before .before .before .loop in
     symbols-many (c .before .before .before .before .before .before .before .before .before .args .file .now) (l .arities) (l .count) (l .at) (l .inv) (c .before .before .before .before .before .frame-at .result) (c .before .before .before .before .before .frame-at .ensures) (c .before .before .before .before .if1 .left) (c .before .before .if2 .left) (c .if3 .taken)
 
--- src/reader.rt:188:13
 returns-4 : tie.Need-returns-4 Inv-loop μ-loop
 returns-4 c =
     let l = c .before .before .before .before .before .before .before .loop in
     symbols-wide (c .before .before .before .before .before .before .before .before .before .before .args .file .now) (l .arities) (l .count) (l .at) (l .inv) (c .before .before .before .before .before .before .frame-at .result) (c .before .before .before .before .before .before .frame-at .ensures) (c .before .before .before .before .before .if1 .left) (c .before .before .before .if2 .left) (c .before .if3 .left) (c .if4 .taken)
 
--- src/reader.rt:190:17
 cast-arities : tie.Need-cast-arities Inv-loop μ-loop
 cast-arities c = search needs
 
--- src/reader.rt:190:9
 array-write-arities : tie.Need-array-write-arities Inv-loop μ-loop
 array-write-arities c = search needs
 
--- src/reader.rt:191:9
 add-count : tie.Need-add-count Inv-loop μ-loop
 add-count c = search needs
 
--- src/reader.rt:192:9
 add-at : tie.Need-add-at Inv-loop μ-loop
 add-at c = search needs
 
--- src/reader.rt:174:5
 loop-less : tie.Need-loop-less Inv-loop μ-loop
 loop-less c =
     let l = c .before .before .before .before .before .before .before .loop in
     omega (arith, symbols-there (c .before .before .before .before .before .before .before .before .before .before .args .file .now) (l .arities) (l .count) (l .at) (l .inv) (c .before .before .before .before .before .before .frame-at .result) (c .before .before .before .before .before .before .frame-at .ensures) (c .before .before .before .before .before .if1 .left) (c .before .before .before .if2 .left))
 
--- src/reader.rt:174:5
 loop-again : tie.Need-loop-again Inv-loop μ-loop
 loop-again c =
     let l = c .before .before .before .before .before .before .before .loop in

@@ -1,39 +1,44 @@
-use Rattle.elimination.proofs.Makers.{gives-full, gives-new}
 use borrow.Author.Needs.{needs}
+use Prim.Native.Nat.{ℕ}
+use native.Mathlib.Omega.{arith}
+use Rattle.expressions.specs.declared.Shape.{Shape}
+use Rattle.elimination.proofs.Makers.{new-few, new-made, new-none}
 use Rattle.elimination.proofs.maker.new_node.Statement.{statement}
 use Rattle.elimination.proofs.maker.new_node.Tie as tie
-use Rattle.elimination.proofs.maker.new_node.Reads as reads
-use Rattle.elimination.proofs.maker.new_node.Lts as lts
-use Rattle.expressions.proofs.make.Reads as make-reads
 
--- src/maker.rt:59:9
+-- the shape of what is given
+abbrev given : (kind label first second third : ℕ) → Shape
+given kind label first second third = record { kind = kind; label = label; first = first; second = second; third = third }
+
+cast-make : tie.Need-cast-make
+cast-make c = search needs
+
 make-requires : tie.Need-make-requires
 make-requires c κs = search needs
 
--- src/maker.rt:63:20
-add-t8 : tie.Need-add-t8
-add-t8 c = search needs
+add-t13 : tie.Need-add-t13
+add-t13 c =
+    let make = c .before .before .before .before .before .make in
+    let a = c .before .before .before .before .before .before .before .before .before .args in
+    omega (arith, new-few (a .words .now) (a .last) (given (a .kind) (a .label) (a .first) (a .second) (a .third)) (make .last .0) (make .result) (make .ensures) (c .before .if1 .taken))
 
--- src/maker.rt:64:19
-cast-t9 : tie.Need-cast-t9
-cast-t9 c = search needs
-
--- src/maker.rt:61:9
 same-length : tie.Need-same-length
 same-length c = search needs
 
--- src/maker.rt:61:9
 returns : tie.Need-returns
-returns c = let a = c .before .before .before .before .before .before .before .args in gives-new (a .words .now) (a .count) (c .before .before .before .before .before .before .before .pre .0) (a .shape) (c .before .before .before .before .make .last .0) (c .before .before .before .before .make .result) (c .before .before .before .before .make .ensures) (c .if1 .taken)
+returns c =
+    let make = c .before .before .before .before .before .make in
+    let a = c .before .before .before .before .before .before .before .before .before .args in
+    new-made (a .words .now) (a .last) (given (a .kind) (a .label) (a .first) (a .second) (a .third)) (make .last .0) (make .result) (make .ensures) (c .before .if1 .taken)
 
--- src/maker.rt:54:1
 same-length-2 : tie.Need-same-length-2
 same-length-2 c = search needs
 
--- src/maker.rt:54:1
 returns-2 : tie.Need-returns-2
-returns-2 c = let a = c .before .before .before .before .before .before .before .args in gives-full (a .words .now) (a .count) (c .before .before .before .before .before .before .before .pre .0) (a .shape) (c .before .before .before .before .make .last .0) (c .before .before .before .before .make .result) (c .before .before .before .before .make .ensures) (c .before .before .before .before .before .before .before .pre .1) (c .if1 .left)
+returns-2 c =
+    let make = c .before .before .before .before .make in
+    let a = c .before .before .before .before .before .before .before .before .args in
+    new-none (a .words .now) (a .last) (given (a .kind) (a .label) (a .first) (a .second) (a .third)) (make .last .0) (make .result) (make .ensures) (c .if1 .left)
 
 pub new-node-spec : {M : Type 1} → statement M
-new-node-spec =
-    tie.close (tie.spec make-requires add-t8 cast-t9 same-length returns same-length-2 returns-2)
+new-node-spec = tie.close (tie.spec cast-make make-requires add-t13 same-length returns same-length-2 returns-2)

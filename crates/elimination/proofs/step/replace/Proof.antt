@@ -1,39 +1,52 @@
-use Rattle.elimination.proofs.Replacing.{row-gone, row-stays}
-use mathlib.Core.Path.{_∙_, sym}
+use Prim.Native.Nat.{ℕ}
 use borrow.Author.Needs.{needs}
+use mathlib.Core.Path.{_∙_, ap, sym}
+use Rattle.expressions.specs.Words.{nodeIn}
+use Rattle.elimination.specs.Inside.{openIn}
+use Rattle.elimination.proofs.Replacing.{replace-open, replace-own}
 use Rattle.elimination.proofs.step.replace.Statement.{statement}
 use Rattle.elimination.proofs.step.replace.Tie as tie
-use Rattle.elimination.proofs.step.replace.Reads as reads
-use Rattle.elimination.proofs.step.replace.Lts as lts
-use Rattle.elimination.proofs.rows.row.Reads as row-reads
-use Rattle.elimination.proofs.step.replaced_node.Reads as replaced-node-reads
-use Rattle.ground.proofs.wide.Reads as wide-reads
 
--- src/step.rt:140:8
-wide-requires : tie.Need-wide-requires
-wide-requires c κs = search needs
+wide16-requires : tie.Need-wide16-requires
+wide16-requires c κs = search needs
 
--- src/step.rt:141:9
-returns : tie.Need-returns
-returns c = let a = c .before .before .before .args in row-gone (a .words .now) (a .count) (c .before .before .before .pre .0) (a .q) (a .standin) (a .row) (sym (c .before .wide .ensures) ∙ c .if1 .taken)
+opens-requires : tie.Need-opens-requires
+opens-requires c κs = search needs
 
--- src/step.rt:148:9
-replaced-node-requires : tie.Need-replaced-node-requires
-replaced-node-requires c κs = search needs
+make-cat-requires : tie.Need-make-cat-requires
+make-cat-requires c κs = search needs
 
--- src/step.rt:153:14
-row-requires : tie.Need-row-requires
-row-requires c κs = search needs
-
--- src/step.rt:132:1
 same-length : tie.Need-same-length
 same-length c = search needs
 
--- src/step.rt:132:1
+returns : tie.Need-returns
+returns c =
+    let make-cat = c .before .before .make-cat in
+    let a = c .before .before .before .before .before .before .before .before .before .args in
+    let p = c .before .before .before .before .before .before .before .before .before .pre in
+    let w = c .before .before .before .before .before .before .before .wide16 .ensures in
+    let o = ap (λ (n : ℕ). openIn (a .q) (nodeIn (a .words .now) n)) (sym w) ∙ sym (c .before .before .before .before .before .opens .ensures) in
+    replace-open (a .words .now) (a .last) (a .q) (p .0) (a .standin) (a .row) (p .1) (o ∙ c .before .before .before .before .if1 .taken) (make-cat .last .0) (make-cat .result) (rw w at (make-cat .ensures))
+
+same-length-2 : tie.Need-same-length-2
+same-length-2 c = search needs
+
 returns-2 : tie.Need-returns-2
-returns-2 c = let a = c .before .before .before .before .before .before .before .before .args in let p = c .before .before .before .before .before .before .before .before .pre in row-stays (a .words .now) (a .count) (p .0) (a .q) (a .standin) (a .row) (λ e. c .before .before .before .before .before .if1 .left (c .before .before .before .before .before .before .wide .ensures ∙ e)) (p .1 .1 .0) (p .1 .1 .1) (c .before .before .before .replaced-node .last .0) (c .before .before .before .replaced-node .result) (c .before .before .before .replaced-node .ensures) (c .row .result) (c .row .ensures)
+returns-2 c =
+    let a = c .before .before .before .before .before .args in
+    let p = c .before .before .before .before .before .pre in
+    let w = c .before .before .before .wide16 .ensures in
+    let o = ap (λ (n : ℕ). openIn (a .q) (nodeIn (a .words .now) n)) (sym w) ∙ sym (c .before .opens .ensures) in
+    rw w (replace-own (a .words .now) (a .last) (a .q) (p .0) (a .standin) (a .row) (p .1) (o ∙ c .if1 .left))
 
 pub replace-spec : {M : Type 1} → statement M
 replace-spec =
     tie.close
-    (tie.spec wide-requires returns replaced-node-requires row-requires same-length returns-2)
+    (tie.spec
+    wide16-requires
+    opens-requires
+    make-cat-requires
+    same-length
+    returns
+    same-length-2
+    returns-2)

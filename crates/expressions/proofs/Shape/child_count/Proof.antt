@@ -10,32 +10,26 @@ returns : tie.Need-returns
 unfolding childCount
 returns c = rw (c .match .keys1)
 
--- src/lib.rt:57:5
 returns-2 : tie.Need-returns-2
 unfolding childCount
 returns-2 c = rw (c .match .keys2)
 
--- src/lib.rt:57:5
 returns-3 : tie.Need-returns-3
 unfolding childCount
 returns-3 c = rw (c .match .keys3)
 
--- src/lib.rt:57:5
 returns-4 : tie.Need-returns-4
 unfolding childCount
 returns-4 c = rw (c .match .keys4)
 
--- src/lib.rt:57:5
 returns-5 : tie.Need-returns-5
 unfolding childCount
 returns-5 c = rw (c .match .keys5)
 
--- src/lib.rt:57:5
 returns-6 : tie.Need-returns-6
 unfolding childCount
 returns-6 c = rw (c .match .keys6)
 
--- src/lib.rt:57:5
 returns-7 : tie.Need-returns-7
 returns-7 c = sym (other-count _ _ (omega arith))
 

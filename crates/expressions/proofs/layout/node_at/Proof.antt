@@ -10,27 +10,21 @@ use Rattle.expressions.proofs.layout.node_at.Tie as tie
 mul-at : tie.Need-mul-at
 mul-at c = search needs
 
--- src/layout.rt:34:16
 mul-first-node : tie.Need-mul-first-node
 mul-first-node c = search needs
 
--- src/layout.rt:34:16
 sub-first-node : tie.Need-sub-first-node
 sub-first-node c = search needs
 
--- src/layout.rt:34:16
 part-first-node-start : tie.Need-part-first-node-start
 part-first-node-start c = search needs
 
--- src/layout.rt:34:16
 part-first-node-end : tie.Need-part-first-node-end
 part-first-node-end c = search needs
 
--- src/layout.rt:34:5
 first-node-requires : tie.Need-first-node-requires
 first-node-requires c κs = search needs
 
--- src/layout.rt:29:1
 returns : tie.Need-returns
 unfolding readNode
 returns c = let a = c .before .before .before .args in c .first-node .ensures ∙ ap decode (rest-part (a .words .now) (nodeWidth * a .i))

@@ -11,35 +11,27 @@ use Rattle.expressions.proofs.layout.put.Tie as tie
 mul-at : tie.Need-mul-at
 mul-at c = search needs
 
--- src/layout.rt:56:15
 add-end : tie.Need-add-end
 add-end c = search needs
 
--- src/layout.rt:57:14
 mul-put-over : tie.Need-mul-put-over
 mul-put-over c = search needs
 
--- src/layout.rt:57:14
 sub-put-over : tie.Need-sub-put-over
 sub-put-over c = search needs
 
--- src/layout.rt:57:14
 part-put-over-start : tie.Need-part-put-over-start
 part-put-over-start c = search needs
 
--- src/layout.rt:57:14
 part-put-over-end : tie.Need-part-put-over-end
 part-put-over-end c = search needs
 
--- src/layout.rt:57:5
 put-over-requires : tie.Need-put-over-requires
 put-over-requires c κs = search needs
 
--- src/layout.rt:51:1
 same-length : tie.Need-same-length
 same-length c = search needs
 
--- src/layout.rt:51:1
 returns : tie.Need-returns
 returns c =
     let a = c .before .before .before .before .before .args in

@@ -9,31 +9,24 @@ use Rattle.expressions.proofs.layout.put_over.Tie as tie
 slice-write-words : tie.Need-slice-write-words
 slice-write-words c = search needs
 
--- src/layout.rt:43:5
 slice-write-words-2 : tie.Need-slice-write-words-2
 slice-write-words-2 c = search needs
 
--- src/layout.rt:44:5
 slice-write-words-3 : tie.Need-slice-write-words-3
 slice-write-words-3 c = search needs
 
--- src/layout.rt:45:5
 slice-write-words-4 : tie.Need-slice-write-words-4
 slice-write-words-4 c = simp length-set (omega arith)
 
--- src/layout.rt:46:5
 slice-write-words-5 : tie.Need-slice-write-words-5
 slice-write-words-5 c = simp length-set (omega arith)
 
--- src/layout.rt:47:5
 slice-write-words-6 : tie.Need-slice-write-words-6
 slice-write-words-6 c = simp length-set (omega arith)
 
--- src/layout.rt:37:1
 same-length : tie.Need-same-length
 same-length c = search needs
 
--- src/layout.rt:37:1
 returns : tie.Need-returns
 returns c = six-stores (c .before .args .words .now) (c .before .args .node) (c .before .pre)
 

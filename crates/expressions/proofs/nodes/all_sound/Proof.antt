@@ -16,35 +16,28 @@ Inv-loop words count i₀ i = (i ≤ count) × SoundNodes (tableOf words i)
 abbrev μ-loop : tie.MeasureT-loop
 μ-loop words count i₀ i = count - i
 
--- src/nodes.rt:171:5
 loop-holds : tie.Need-loop-holds Inv-loop μ-loop
 loop-holds c = (omega arith, sound-start _)
 
--- src/nodes.rt:172:13
 node-sound-requires : tie.Need-node-sound-requires Inv-loop μ-loop
 node-sound-requires c κs = omega arith
 
--- src/nodes.rt:173:13
 returns : tie.Need-returns Inv-loop μ-loop
 returns c =
     let a = c .before .before .before .before .before .args in
     decides-no (λ s. refuted (c .before .node-sound .ensures) (not-true _ (c .if1 .taken)) (sound-node (a .words .now) (a .count) (c .before .before .before .loop .i) s (c .before .before .loop-test .taken)))
 
--- src/nodes.rt:175:9
 add-i : tie.Need-add-i Inv-loop μ-loop
 add-i c = omega arith
 
--- src/nodes.rt:171:5
 loop-less : tie.Need-loop-less Inv-loop μ-loop
 loop-less c = omega arith
 
--- src/nodes.rt:171:5
 loop-again : tie.Need-loop-again Inv-loop μ-loop
 loop-again c =
     let a = c .before .before .before .before .before .args in
     (omega arith, sound-more (a .words .now) (c .before .before .before .loop .i) (c .before .before .before .loop .inv .1) (c .before .node-sound .ensures .only (not-false _ (c .if1 .left))))
 
--- src/nodes.rt:165:1
 returns-2 : tie.Need-returns-2 Inv-loop μ-loop
 returns-2 c = let e : c .before .loop .i ≡ c .before .before .before .args .count = omega arith in decides-yes (rw e at (c .before .loop .inv .1))
 

@@ -10,24 +10,20 @@ use Rattle.expressions.proofs.nodes.node_sound.Tie as tie
 node-at-requires : tie.Need-node-at-requires
 node-at-requires c κs = search needs
 
--- src/nodes.rt:158:9
 shape-fits-requires : tie.Need-shape-fits-requires
 shape-fits-requires c κs = search needs
 
--- src/nodes.rt:159:9
 returns : tie.Need-returns
 returns c =
     let a = c .before .before .before .before .before .args in
     node-unfit (a .words .now) (a .i) (rw (c .before .before .before .node-at .ensures) at (refuted (c .before .shape-fits .ensures) (not-true _ (c .if1 .taken))))
 
--- src/nodes.rt:161:19
 open-of-requires : tie.Need-open-of-requires
 open-of-requires c κs =
     let s = c .before .before .before .before .before in
     let f = c .before .shape-fits .ensures .only (not-false _ (c .if1 .left)) in
     (f .labelled, children-whole (s .args .words .now) (s .args .i) _ f (omega arith))
 
--- src/nodes.rt:152:1
 returns-2 : tie.Need-returns-2
 returns-2 c =
     let a = c .before .before .before .before .before .before .before .args in

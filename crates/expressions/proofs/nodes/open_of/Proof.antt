@@ -13,72 +13,57 @@ use Rattle.expressions.proofs.nodes.open_of.Tie as tie
 one-requires : tie.Need-one-requires
 one-requires c κs = search needs
 
--- src/nodes.rt:142:14
 wide16-requires : tie.Need-wide16-requires
 wide16-requires c κs = search needs
 
--- src/nodes.rt:143:14
 union-opens-requires : tie.Need-union-opens-requires
 union-opens-requires c κs = c .before .before .pre .1
 
--- src/nodes.rt:144:14
 union-opens-requires-2 : tie.Need-union-opens-requires-2
 union-opens-requires-2 c κs = c .before .before .pre .1
 
--- src/nodes.rt:145:31
 opens-of-requires : tie.Need-opens-of-requires
 unfolding children childCount
 opens-of-requires c κs = (rw (c .match .keys5) at (c .before .before .pre .1)) .0
 
--- src/nodes.rt:145:61
 opens-of-requires-2 : tie.Need-opens-of-requires-2
 unfolding children childCount
 opens-of-requires-2 c κs = (rw (c .before .match .keys5) at (c .before .before .before .pre .1)) .1 .0
 
--- src/nodes.rt:145:14
 cat-opens-requires : tie.Need-cat-opens-requires
 cat-opens-requires c κs = rw (c .before .before .match .keys5) at (c .before .before .before .before .pre .0)
 
--- src/nodes.rt:146:32
 opens-of-requires-3 : tie.Need-opens-of-requires-3
 unfolding children childCount
 opens-of-requires-3 c κs = (rw (c .match .keys6) at (c .before .before .pre .1)) .0
 
--- src/nodes.rt:146:14
 iter-opens-requires : tie.Need-iter-opens-requires
 iter-opens-requires c κs = search needs
 
--- src/nodes.rt:133:1
 returns : tie.Need-returns
 unfolding opensIn opensOf
 returns c = rw (c .match .keys1) (empty-zero stateWidth)
 
--- src/nodes.rt:133:1
 returns-2 : tie.Need-returns-2
 unfolding opensIn opensOf
 returns-2 c = c .wide16 .ensures ∙ c .before .one .ensures ∙ rw (c .before .before .match .keys2)
 
--- src/nodes.rt:133:1
 returns-3 : tie.Need-returns-3
 unfolding opensIn opensOf
 returns-3 c = c .union-opens .ensures ∙ rw (c .before .match .keys3)
 
--- src/nodes.rt:133:1
 returns-4 : tie.Need-returns-4
 unfolding opensIn opensOf
 returns-4 c = c .union-opens2 .ensures ∙ rw (c .before .match .keys4)
 
--- src/nodes.rt:133:1
 returns-5 : tie.Need-returns-5
 unfolding opensIn opensOf children childCount
 returns-5 c = c .cat-opens .ensures ∙ rw (c .before .before .opens-of .ensures, c .before .opens-of2 .ensures, c .before .before .before .match .keys5)
 
--- src/nodes.rt:133:1
 returns-6 : tie.Need-returns-6
 unfolding opensIn opensOf children childCount
 returns-6 c = c .iter-opens .ensures ∙ rw (c .before .opens-of3 .ensures, c .before .before .match .keys6)
 
--- src/nodes.rt:133:1
 returns-7 : tie.Need-returns-7
 returns-7 c = let s = c .before .before in absurd (no-kind (s .args .shape .kind) (s .args .shape .label) (omega arith) (s .pre .0))
 

@@ -8,7 +8,6 @@ use Rattle.expressions.proofs.nodes.opens_of.Tie as tie
 node-at-requires : tie.Need-node-at-requires
 node-at-requires c κs = search needs
 
--- src/nodes.rt:85:1
 returns : tie.Need-returns
 returns c = ap (λ (n : Node). n .opens) (c .node-at .ensures)
 

@@ -12,15 +12,12 @@ open-of-requires c κs =
     let s = c .before .before in
     (s .pre .0 .labelled, children-whole (s .args .words .now) (s .args .number) (s .args .shape) (s .pre .0) (omega arith))
 
--- src/nodes.rt:159:5
 put-requires : tie.Need-put-requires
 put-requires c κs = search needs
 
--- src/nodes.rt:153:1
 same-length : tie.Need-same-length
 same-length c = search needs
 
--- src/nodes.rt:153:1
 returns : tie.Need-returns
 returns c =
     let s = c .before .before .before .before .before .before .before in

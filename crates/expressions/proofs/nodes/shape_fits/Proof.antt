@@ -9,39 +9,31 @@ use Rattle.expressions.proofs.nodes.shape_fits.Tie as tie
 label-fits-requires : tie.Need-label-fits-requires
 label-fits-requires c κs = search needs
 
--- src/nodes.rt:58:9
 returns : tie.Need-returns
 returns c = decides-no (λ f. refuted (c .before .label-fits .ensures) (not-true _ (c .if1 .taken)) (f .labelled))
 
--- src/nodes.rt:60:9
 child-count-requires : tie.Need-child-count-requires
 child-count-requires c κs = search needs
 
--- src/nodes.rt:61:9
 place-fits-requires : tie.Need-place-fits-requires
 place-fits-requires c κs = search needs
 
--- src/nodes.rt:62:9
 returns-2 : tie.Need-returns-2
 returns-2 c =
     let a = c .before .before .before .before .before .args in
     decides-no (λ f. refuted (c .before .place-fits .ensures) (not-true _ (c .if2 .taken)) (first-ok (a .number) (a .shape) (c .before .before .child-count .ensures) f))
 
--- src/nodes.rt:64:9
 place-fits-requires-2 : tie.Need-place-fits-requires-2
 place-fits-requires-2 c κs = search needs
 
--- src/nodes.rt:65:9
 returns-3 : tie.Need-returns-3
 returns-3 c =
     let a = c .before .before .before .before .before .before .before .args in
     decides-no (λ f. refuted (c .before .place-fits2 .ensures) (not-true _ (c .if3 .taken)) (second-ok (a .number) (a .shape) (c .before .before .before .before .child-count .ensures) f))
 
--- src/nodes.rt:67:5
 place-fits-requires-3 : tie.Need-place-fits-requires-3
 place-fits-requires-3 c κs = search needs
 
--- src/nodes.rt:54:1
 returns-4 : tie.Need-returns-4
 returns-4 c =
     let a = c .before .before .before .before .before .before .before .before .args in

@@ -11,27 +11,21 @@ use Rattle.expressions.proofs.nodes.union_opens.Tie as tie
 child-count-requires : tie.Need-child-count-requires
 child-count-requires c κs = search needs
 
--- src/nodes.rt:96:49
 empty-requires : tie.Need-empty-requires
 empty-requires c κs = search needs
 
--- src/nodes.rt:96:9
 joined-requires : tie.Need-joined-requires
 joined-requires c κs = let s = c .before .before .before in child-third (λ i. nodeWidth * suc i ≤ length (s .args .words .now)) (s .args .shape) (c .before .child-count .ensures) (s .pre)
 
--- src/nodes.rt:97:9
 joined-requires-2 : tie.Need-joined-requires-2
 joined-requires-2 c κs = let s = c .before .before .before .before in child-second (λ i. nodeWidth * suc i ≤ length (s .args .words .now)) (s .args .shape) (c .before .before .child-count .ensures) (s .pre)
 
--- src/nodes.rt:98:20
 joined-requires-3 : tie.Need-joined-requires-3
 joined-requires-3 c κs = let s = c .before .before .before .before .before in child-first (λ i. nodeWidth * suc i ≤ length (s .args .words .now)) (s .args .shape) (c .before .before .before .child-count .ensures) (s .pre)
 
--- src/nodes.rt:98:5
 wide16-requires : tie.Need-wide16-requires
 wide16-requires c κs = search needs
 
--- src/nodes.rt:91:1
 returns : tie.Need-returns
 returns c =
     let d = c .before .before .before .before .before in

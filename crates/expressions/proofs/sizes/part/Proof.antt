@@ -8,19 +8,15 @@ use Rattle.expressions.proofs.sizes.part.Tie as tie
 mul-result : tie.Need-mul-result
 mul-result c = omega (arith, c .before .pre (c .if1 .taken))
 
--- src/sizes.rt:24:16
 shared-slice-read-result : tie.Need-shared-slice-read-result
 shared-slice-read-result c = c .before .before .pre (c .before .if1 .taken)
 
--- src/sizes.rt:24:16
 cast-result : tie.Need-cast-result
 cast-result c = omega (arith, c .shared-slice-known .given (c .before .before .args .child))
 
--- src/sizes.rt:24:9
 returns : tie.Need-returns
 returns c = (rw (lt-ltb _ _ (c .before .if1 .taken)), omega (arith, c .shared-slice-known .given (c .before .before .args .child)))
 
--- src/sizes.rt:18:1
 returns-2 : tie.Need-returns-2
 returns-2 c = (rw (le-ltb _ _ (c .if1 .left)), omega arith)
 

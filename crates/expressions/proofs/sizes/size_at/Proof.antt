@@ -10,19 +10,15 @@ use Rattle.expressions.proofs.sizes.size_at.Tie as tie
 node-at-requires : tie.Need-node-at-requires
 node-at-requires c κs = search needs
 
--- src/sizes.rt:48:9
 size-over-requires : tie.Need-size-over-requires
 size-over-requires c κs = rw (c .node-at .ensures) (all-map (children _) (λ k l. omega arith) (c .before .before .before .pre .1 .1 .earlier))
 
--- src/sizes.rt:50:16
 cast-result : tie.Need-cast-result
 cast-result c = search needs
 
--- src/sizes.rt:50:9
 returns : tie.Need-returns
 returns c = held-under (rw (c .before .before .node-at .ensures) at (c .before .size-over .ensures)) (c .if1 .taken)
 
--- src/sizes.rt:42:1
 returns-2 : tie.Need-returns-2
 returns-2 c = held-over (rw (c .before .before .node-at .ensures) at (c .before .size-over .ensures)) (c .if1 .left)
 

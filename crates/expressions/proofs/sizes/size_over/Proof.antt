@@ -1,62 +1,64 @@
--- `sizes::size_over` meets its contract.
+-- `sizes::size_over` meets its contract: each arm by computing.
 use native.Mathlib.Omega.{arith}
-use Prim.Native.Nat.{_<_}
-use lib.ListN.{length, getD}
+use mathlib.Core.Path.{refl}
+use Rattle.expressions.specs.Nodes.{childCount, children}
 use Rattle.expressions.specs.Inside.{sizeOver}
-use Rattle.expressions.proofs.Places.{child-first, child-second, child-third, sum-three}
-use borrow.Author.Needs.{needs}
+use Rattle.expressions.proofs.KindLaws.{other-count}
 use Rattle.expressions.proofs.sizes.size_over.Statement.{statement}
 use Rattle.expressions.proofs.sizes.size_over.Tie as tie
 
-child-count-requires : tie.Need-child-count-requires
-child-count-requires c κs = search needs
+over-children-requires : tie.Need-over-children-requires
+unfolding childCount
+over-children-requires c κs = (rw (c .match .keys3) refl, c .before .before .pre)
 
--- src/sizes.rt:35:9
-part-requires : tie.Need-part-requires
-part-requires c κs = let s = c .before .before in child-first (λ i. i < length (s .args .sizes .now)) (s .args .shape) (c .child-count .ensures) (s .pre)
+over-children-requires-2 : tie.Need-over-children-requires-2
+unfolding childCount
+over-children-requires-2 c κs = (rw (c .match .keys4) refl, c .before .before .pre)
 
--- src/sizes.rt:36:9
-part-requires-2 : tie.Need-part-requires-2
-part-requires-2 c κs = let s = c .before .before .before in child-second (λ i. i < length (s .args .sizes .now)) (s .args .shape) (c .before .child-count .ensures) (s .pre)
+over-children-requires-3 : tie.Need-over-children-requires-3
+unfolding childCount
+over-children-requires-3 c κs = (rw (c .match .keys5) refl, c .before .before .pre)
 
--- src/sizes.rt:37:9
-part-requires-3 : tie.Need-part-requires-3
-part-requires-3 c κs = let s = c .before .before .before .before in child-third (λ i. i < length (s .args .sizes .now)) (s .args .shape) (c .before .before .child-count .ensures) (s .pre)
+over-children-requires-4 : tie.Need-over-children-requires-4
+unfolding childCount
+over-children-requires-4 c κs = (rw (c .match .keys6) refl, c .before .before .pre)
 
--- src/sizes.rt:38:5
-add-result : tie.Need-add-result
-add-result c = search needs
-
--- src/sizes.rt:38:5
-add-result-2 : tie.Need-add-result-2
-add-result-2 c = search needs
-
--- src/sizes.rt:38:5
-add-result-3 : tie.Need-add-result-3
-add-result-3 c = search needs
-
--- src/sizes.rt:30:1
 returns : tie.Need-returns
-unfolding sizeOver
-returns c =
-    let a = c .before .before .before .before .before .args in
-    omega (
-      arith,
-      c .before .before .part .ensures .0,
-      c .before .part2 .ensures .0,
-      c .part3 .ensures .0,
-      sum-three (λ i. getD (a .sizes .now) i 0) (a .shape) (c .before .before .before .child-count .ensures),
-    )
+unfolding sizeOver children childCount
+returns c = rw (c .match .keys1)
+
+returns-2 : tie.Need-returns-2
+unfolding sizeOver children childCount
+returns-2 c = rw (c .match .keys2)
+
+returns-3 : tie.Need-returns-3
+returns-3 c = c .over-children .ensures
+
+returns-4 : tie.Need-returns-4
+returns-4 c = c .over-children2 .ensures
+
+returns-5 : tie.Need-returns-5
+returns-5 c = c .over-children3 .ensures
+
+returns-6 : tie.Need-returns-6
+returns-6 c = c .over-children4 .ensures
+
+returns-7 : tie.Need-returns-7
+unfolding sizeOver children
+returns-7 c = let s = c .before .before .args .shape in rw (other-count (s .kind) (s .label) (omega arith))
 
 pub size-over-spec : {M : Type 1} → statement M
 size-over-spec =
     tie.close
     (tie.spec
-    child-count-requires
-    part-requires
-    part-requires-2
-    part-requires-3
-    add-result
-    add-result-2
-    add-result-3
-    returns)
+    over-children-requires
+    over-children-requires-2
+    over-children-requires-3
+    over-children-requires-4
+    returns
+    returns-2
+    returns-3
+    returns-4
+    returns-5
+    returns-6
+    returns-7)

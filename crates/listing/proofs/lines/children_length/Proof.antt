@@ -9,27 +9,21 @@ use Rattle.listing.proofs.lines.children_length.Tie as tie
 child-count-requires : tie.Need-child-count-requires
 child-count-requires c κs = search needs
 
--- src/lines.rt:90:9
 field-length-requires : tie.Need-field-length-requires
 field-length-requires c κs = search needs
 
--- src/lines.rt:91:9
 field-length-requires-2 : tie.Need-field-length-requires-2
 field-length-requires-2 c κs = search needs
 
--- src/lines.rt:92:23
 field-length-requires-3 : tie.Need-field-length-requires-3
 field-length-requires-3 c κs = search needs
 
--- src/lines.rt:92:14
 add-result : tie.Need-add-result
 add-result c = search needs
 
--- src/lines.rt:92:5
 add-result-2 : tie.Need-add-result-2
 add-result-2 c = search needs
 
--- src/lines.rt:86:1
 returns : tie.Need-returns
 unfolding childrenBytes
 returns c = (rw (← c .before .before .before .child-count .ensures) (simp length-append (omega (arith, c .before .before .field-length .ensures .0, c .before .field-length2 .ensures .0, c .field-length3 .ensures .0))), omega arith)

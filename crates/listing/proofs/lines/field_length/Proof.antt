@@ -9,16 +9,13 @@ use Rattle.listing.proofs.lines.field_length.Tie as tie
 digits-requires : tie.Need-digits-requires
 digits-requires c κs = search needs
 
--- src/lines.rt:57:16
 add-result : tie.Need-add-result
 add-result c = omega (arith, c .digits .ensures, digits-twenty (c .before .before .args .n) (omega arith))
 
--- src/lines.rt:57:9
 returns : tie.Need-returns
 unfolding fieldBytes
 returns c = (rw (c .before .if1 .taken) (omega (arith, c .digits .ensures)), omega (arith, c .digits .ensures, digits-twenty (c .before .before .args .n) (omega arith)))
 
--- src/lines.rt:53:1
 returns-2 : tie.Need-returns-2
 unfolding fieldBytes
 returns-2 c = (rw (c .if1 .left), omega arith)

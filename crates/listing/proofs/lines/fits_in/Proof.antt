@@ -9,21 +9,17 @@ use Rattle.listing.proofs.lines.fits_in.Tie as tie
 mul-if1 : tie.Need-mul-if1
 mul-if1 c = search needs
 
--- src/lines.rt:123:8
 add-if1 : tie.Need-add-if1
 add-if1 c = search needs
 
--- src/lines.rt:124:9
 returns : tie.Need-returns
 returns c =
     let s = c .before .before in
     decides-yes (omega (arith, listing-bound (s .args .words .now) (s .args .count) (s .args .answer) (s .pre)))
 
--- src/lines.rt:126:5
 listing-length-requires : tie.Need-listing-length-requires
 listing-length-requires c κs = search needs
 
--- src/lines.rt:119:1
 returns-2 : tie.Need-returns-2
 returns-2 c = rw (← c .listing-length .ensures) (decides-le _ _)
 

@@ -8,27 +8,21 @@ use Rattle.listing.proofs.lines.has_label.Tie as tie
 returns : tie.Need-returns
 returns c = search needs
 
--- src/lines.rt:21:1
 returns-2 : tie.Need-returns-2
 returns-2 c = search needs
 
--- src/lines.rt:21:1
 returns-3 : tie.Need-returns-3
 returns-3 c = search needs
 
--- src/lines.rt:21:1
 returns-4 : tie.Need-returns-4
 returns-4 c = search needs
 
--- src/lines.rt:21:1
 returns-5 : tie.Need-returns-5
 returns-5 c = search needs
 
--- src/lines.rt:21:1
 returns-6 : tie.Need-returns-6
 returns-6 c = search needs
 
--- src/lines.rt:21:1
 returns-7 : tie.Need-returns-7
 returns-7 c = rw (other-kind (c .before .args .kind) (omega arith))
 

@@ -8,23 +8,18 @@ use Rattle.listing.proofs.lines.head_length.Tie as tie
 name-length-requires : tie.Need-name-length-requires
 name-length-requires c κs = search needs
 
--- src/lines.rt:82:25
 has-label-requires : tie.Need-has-label-requires
 has-label-requires c κs = search needs
 
--- src/lines.rt:82:42
 label-number-requires : tie.Need-label-number-requires
 label-number-requires c κs = search needs
 
--- src/lines.rt:82:12
 field-length-requires : tie.Need-field-length-requires
 field-length-requires c κs = search needs
 
--- src/lines.rt:82:5
 add-result : tie.Need-add-result
 add-result c = search needs
 
--- src/lines.rt:78:1
 returns : tie.Need-returns
 returns c =
     let a = c .before .before .before .before .args in

@@ -9,32 +9,26 @@ returns : tie.Need-returns
 unfolding labelNumber
 returns c = rw (c .match .keys1)
 
--- src/lines.rt:36:1
 returns-2 : tie.Need-returns-2
 unfolding labelNumber
 returns-2 c = rw (c .match .keys2)
 
--- src/lines.rt:36:1
 returns-3 : tie.Need-returns-3
 unfolding labelNumber
 returns-3 c = rw (c .match .keys3)
 
--- src/lines.rt:36:1
 returns-4 : tie.Need-returns-4
 unfolding labelNumber
 returns-4 c = rw (c .match .keys4)
 
--- src/lines.rt:36:1
 returns-5 : tie.Need-returns-5
 unfolding labelNumber
 returns-5 c = rw (c .match .keys5)
 
--- src/lines.rt:36:1
 returns-6 : tie.Need-returns-6
 unfolding labelNumber
 returns-6 c = rw (c .match .keys6)
 
--- src/lines.rt:36:1
 returns-7 : tie.Need-returns-7
 unfolding labelNumber
 returns-7 c = rw (other-kind (c .before .args .kind) (omega arith))

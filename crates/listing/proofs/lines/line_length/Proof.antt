@@ -9,27 +9,21 @@ use Rattle.listing.proofs.lines.line_length.Tie as tie
 head-length-requires : tie.Need-head-length-requires
 head-length-requires c κs = search needs
 
--- src/lines.rt:100:9
 children-length-requires : tie.Need-children-length-requires
 children-length-requires c κs = search needs
 
--- src/lines.rt:101:5
 digits-requires : tie.Need-digits-requires
 digits-requires c κs = search needs
 
--- src/lines.rt:101:46
 add-result : tie.Need-add-result
 add-result c = search needs
 
--- src/lines.rt:101:38
 add-result-2 : tie.Need-add-result-2
 add-result-2 c = search needs
 
--- src/lines.rt:101:5
 add-result-3 : tie.Need-add-result-3
 add-result-3 c = omega (arith, c .digits .ensures, digits-twenty (c .before .before .before .args .number) (omega arith))
 
--- src/lines.rt:96:1
 returns : tie.Need-returns
 returns c =
     let a = c .before .before .before .args in

@@ -18,35 +18,27 @@ Inv-loop words count answer total₀ i₀ total i = (total ≡ length (linesTo w
 abbrev μ-loop : tie.MeasureT-loop
 μ-loop words count answer total₀ i₀ total i = count - i
 
--- src/lines.rt:111:5
 loop-holds : tie.Need-loop-holds Inv-loop μ-loop
 loop-holds c = (sym (ap length (lines-none (c .before .args .words .now))), omega arith, omega arith)
 
--- src/lines.rt:112:30
 cast-line-length : tie.Need-cast-line-length Inv-loop μ-loop
 cast-line-length c = omega (arith, c .before .before .before .pre .few)
 
--- src/lines.rt:112:40
 node-at-requires : tie.Need-node-at-requires Inv-loop μ-loop
 node-at-requires c κs = search needs
 
--- src/lines.rt:112:18
 line-length-requires : tie.Need-line-length-requires Inv-loop μ-loop
 line-length-requires c κs = search needs
 
--- src/lines.rt:112:9
 add-total : tie.Need-add-total Inv-loop μ-loop
 add-total c = omega (arith, c .before .before .before .before .before .pre .few)
 
--- src/lines.rt:113:9
 add-i : tie.Need-add-i Inv-loop μ-loop
 add-i c = omega (arith, c .before .before .before .before .before .pre .few)
 
--- src/lines.rt:111:5
 loop-less : tie.Need-loop-less Inv-loop μ-loop
 loop-less c = omega arith
 
--- src/lines.rt:111:5
 loop-again : tie.Need-loop-again Inv-loop μ-loop
 loop-again c =
     let s = c .before .before .before .before .before in
@@ -58,19 +50,15 @@ loop-again c =
       omega arith,
     )
 
--- src/lines.rt:115:18
 digits-requires : tie.Need-digits-requires Inv-loop μ-loop
 digits-requires c κs = search needs
 
--- src/lines.rt:115:14
 add-result : tie.Need-add-result Inv-loop μ-loop
 add-result c = omega (arith, c .digits .ensures, digits-twenty (c .before .before .before .before .args .answer) (omega arith))
 
--- src/lines.rt:115:5
 add-result-2 : tie.Need-add-result-2 Inv-loop μ-loop
 add-result-2 c = omega (arith, c .digits .ensures, c .before .before .before .before .pre .few, digits-twenty (c .before .before .before .before .args .answer) (omega arith))
 
--- src/lines.rt:105:1
 returns : tie.Need-returns Inv-loop μ-loop
 returns c =
     let s = c .before .before .before .before in

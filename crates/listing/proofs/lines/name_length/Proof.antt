@@ -9,32 +9,26 @@ returns : tie.Need-returns
 unfolding kindName
 returns c = (rw (c .match .keys1), omega arith)
 
--- src/lines.rt:63:1
 returns-2 : tie.Need-returns-2
 unfolding kindName
 returns-2 c = (rw (c .match .keys2), omega arith)
 
--- src/lines.rt:63:1
 returns-3 : tie.Need-returns-3
 unfolding kindName
 returns-3 c = (rw (c .match .keys3), omega arith)
 
--- src/lines.rt:63:1
 returns-4 : tie.Need-returns-4
 unfolding kindName
 returns-4 c = (rw (c .match .keys4), omega arith)
 
--- src/lines.rt:63:1
 returns-5 : tie.Need-returns-5
 unfolding kindName
 returns-5 c = (rw (c .match .keys5), omega arith)
 
--- src/lines.rt:63:1
 returns-6 : tie.Need-returns-6
 unfolding kindName
 returns-6 c = (rw (c .match .keys6), omega arith)
 
--- src/lines.rt:63:1
 returns-7 : tie.Need-returns-7
 unfolding kindName
 returns-7 c = (rw (other-kind (c .before .args .kind) (omega arith)), omega arith)

@@ -8,27 +8,21 @@ use Rattle.listing.proofs.lines.put_answer.Tie as tie
 slice-aggregate-put-bytes : tie.Need-slice-aggregate-put-bytes
 slice-aggregate-put-bytes c = search needs
 
--- src/lines.rt:199:9
 put-bytes-requires : tie.Need-put-bytes-requires
 put-bytes-requires c κs = search needs
 
--- src/lines.rt:200:9
 put-field-requires : tie.Need-put-field-requires
 put-field-requires c κs = search needs
 
--- src/lines.rt:201:33
 slice-aggregate-put-bytes-2 : tie.Need-slice-aggregate-put-bytes-2
 slice-aggregate-put-bytes-2 c = search needs
 
--- src/lines.rt:201:5
 put-bytes-requires-2 : tie.Need-put-bytes-requires-2
 put-bytes-requires-2 c κs = search needs
 
--- src/lines.rt:196:1
 same-length : tie.Need-same-length
 same-length c = search needs
 
--- src/lines.rt:196:1
 returns : tie.Need-returns
 returns c =
     let d = c .before .before .before .before .before .before .before in

@@ -8,23 +8,18 @@ use Rattle.listing.proofs.lines.put_children.Tie as tie
 child-count-requires : tie.Need-child-count-requires
 child-count-requires c κs = search needs
 
--- src/lines.rt:180:9
 put-field-requires : tie.Need-put-field-requires
 put-field-requires c κs = search needs
 
--- src/lines.rt:181:9
 put-field-requires-2 : tie.Need-put-field-requires-2
 put-field-requires-2 c κs = search needs
 
--- src/lines.rt:182:5
 put-field-requires-3 : tie.Need-put-field-requires-3
 put-field-requires-3 c κs = search needs
 
--- src/lines.rt:176:1
 same-length : tie.Need-same-length
 same-length c = search needs
 
--- src/lines.rt:176:1
 returns : tie.Need-returns
 unfolding childrenBytes
 returns c =

@@ -8,26 +8,21 @@ use Rattle.listing.proofs.lines.put_field.Tie as tie
 slice-aggregate-put-bytes : tie.Need-slice-aggregate-put-bytes
 slice-aggregate-put-bytes c = search needs
 
--- src/lines.rt:136:13
 put-bytes-requires : tie.Need-put-bytes-requires
 put-bytes-requires c κs = search needs
 
--- src/lines.rt:137:9
 put-number-requires : tie.Need-put-number-requires
 put-number-requires c κs = search needs
 
--- src/lines.rt:137:9
 same-length : tie.Need-same-length
 same-length c = search needs
 
--- src/lines.rt:137:9
 returns : tie.Need-returns
 unfolding fieldBytes
 returns c =
     rw (c .before .before .before .before .before .before .before .before .before .if1 .taken)
     (fits-then (c .before .before .before .before .before .before .put-bytes .ensures .fits) (c .before .before .put-number .ensures .fits))
 
--- src/lines.rt:132:1
 returns-2 : tie.Need-returns-2
 unfolding fieldBytes
 returns-2 c = rw (c .if1 .left) (λ _. wrote-none _ _)

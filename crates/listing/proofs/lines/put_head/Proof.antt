@@ -8,23 +8,18 @@ use Rattle.listing.proofs.lines.put_head.Tie as tie
 put-name-requires : tie.Need-put-name-requires
 put-name-requires c κs = search needs
 
--- src/lines.rt:172:26
 has-label-requires : tie.Need-has-label-requires
 has-label-requires c κs = search needs
 
--- src/lines.rt:172:43
 label-number-requires : tie.Need-label-number-requires
 label-number-requires c κs = search needs
 
--- src/lines.rt:172:5
 put-field-requires : tie.Need-put-field-requires
 put-field-requires c κs = search needs
 
--- src/lines.rt:168:1
 same-length : tie.Need-same-length
 same-length c = search needs
 
--- src/lines.rt:168:1
 returns : tie.Need-returns
 unfolding headBytes
 returns c =

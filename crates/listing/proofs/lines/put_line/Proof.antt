@@ -8,27 +8,21 @@ use Rattle.listing.proofs.lines.put_line.Tie as tie
 put-number-requires : tie.Need-put-number-requires
 put-number-requires c κs = search needs
 
--- src/lines.rt:190:9
 put-head-requires : tie.Need-put-head-requires
 put-head-requires c κs = search needs
 
--- src/lines.rt:191:9
 put-children-requires : tie.Need-put-children-requires
 put-children-requires c κs = search needs
 
--- src/lines.rt:192:33
 slice-aggregate-put-bytes : tie.Need-slice-aggregate-put-bytes
 slice-aggregate-put-bytes c = search needs
 
--- src/lines.rt:192:5
 put-bytes-requires : tie.Need-put-bytes-requires
 put-bytes-requires c κs = search needs
 
--- src/lines.rt:186:1
 same-length : tie.Need-same-length
 same-length c = search needs
 
--- src/lines.rt:186:1
 returns : tie.Need-returns
 returns c =
     let d = c .before .before .before .before .before .before .before in

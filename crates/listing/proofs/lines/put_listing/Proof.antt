@@ -17,31 +17,24 @@ Inv-loop words count answer out₀ at₀ i₀ out at i = Wrote out₀ 0 (linesTo
 abbrev μ-loop : tie.MeasureT-loop
 μ-loop words count answer out₀ at₀ i₀ out at i = count - i
 
--- src/lines.rt:212:5
 loop-holds : tie.Need-loop-holds Inv-loop μ-loop
 loop-holds c = (rw (lines-none (c .before .before .args .words .now)) (wrote-none _ 0), omega arith, refl)
 
--- src/lines.rt:213:32
 cast-put-line : tie.Need-cast-put-line Inv-loop μ-loop
 cast-put-line c = omega (arith, c .before .before .before .before .before .pre .0 .few)
 
--- src/lines.rt:213:42
 node-at-requires : tie.Need-node-at-requires Inv-loop μ-loop
 node-at-requires c κs = search needs
 
--- src/lines.rt:213:9
 put-line-requires : tie.Need-put-line-requires Inv-loop μ-loop
 put-line-requires c κs = search needs
 
--- src/lines.rt:214:9
 add-i : tie.Need-add-i Inv-loop μ-loop
 add-i c = omega arith
 
--- src/lines.rt:212:5
 loop-less : tie.Need-loop-less Inv-loop μ-loop
 loop-less c = omega arith
 
--- src/lines.rt:212:5
 loop-again : tie.Need-loop-again Inv-loop μ-loop
 loop-again c =
     let s = c .before .before .before .before .before .before .before .before .before in
@@ -55,19 +48,15 @@ loop-again c =
       c .before .before .put-line .kept .0 ∙ l .inv .2,
     )
 
--- src/lines.rt:216:25
 cast-put-answer : tie.Need-cast-put-answer Inv-loop μ-loop
 cast-put-answer c = omega (arith, c .before .before .before .before .before .pre .0 .within, c .before .before .before .before .before .pre .0 .few)
 
--- src/lines.rt:216:5
 put-answer-requires : tie.Need-put-answer-requires Inv-loop μ-loop
 put-answer-requires c κs = search needs
 
--- src/lines.rt:205:1
 same-length : tie.Need-same-length Inv-loop μ-loop
 same-length c = c .before .before .put-answer .kept .0 ∙ c .before .before .before .before .before .loop .inv .2
 
--- src/lines.rt:205:1
 returns : tie.Need-returns Inv-loop μ-loop
 returns c =
     let s = c .before .before .before .before .before .before .before .before in

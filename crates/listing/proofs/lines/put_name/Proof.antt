@@ -7,62 +7,48 @@ use Rattle.listing.proofs.lines.put_name.Tie as tie
 slice-aggregate-put-bytes : tie.Need-slice-aggregate-put-bytes
 slice-aggregate-put-bytes c = search needs
 
--- src/lines.rt:160:14
 put-bytes-requires : tie.Need-put-bytes-requires
 put-bytes-requires c κs = search needs
 
--- src/lines.rt:161:41
 slice-aggregate-put-bytes-2 : tie.Need-slice-aggregate-put-bytes-2
 slice-aggregate-put-bytes-2 c = search needs
 
--- src/lines.rt:161:14
 put-bytes-requires-2 : tie.Need-put-bytes-requires-2
 put-bytes-requires-2 c κs = search needs
 
--- src/lines.rt:162:41
 slice-aggregate-put-bytes-3 : tie.Need-slice-aggregate-put-bytes-3
 slice-aggregate-put-bytes-3 c = search needs
 
--- src/lines.rt:162:14
 put-bytes-requires-3 : tie.Need-put-bytes-requires-3
 put-bytes-requires-3 c κs = search needs
 
--- src/lines.rt:163:14
 put-operation-requires : tie.Need-put-operation-requires
 put-operation-requires c κs = search needs
 
--- src/lines.rt:156:1
 same-length : tie.Need-same-length
 same-length c = search needs
 
--- src/lines.rt:156:1
 returns : tie.Need-returns
 unfolding kindName
 returns c = rw (c .before .before .before .before .before .match .keys1) (c .before .before .put-bytes .ensures .fits)
 
--- src/lines.rt:156:1
 same-length-2 : tie.Need-same-length-2
 same-length-2 c = search needs
 
--- src/lines.rt:156:1
 returns-2 : tie.Need-returns-2
 unfolding kindName
 returns-2 c = rw (c .before .before .before .before .before .match .keys2) (c .before .before .put-bytes2 .ensures .fits)
 
--- src/lines.rt:156:1
 same-length-3 : tie.Need-same-length-3
 same-length-3 c = search needs
 
--- src/lines.rt:156:1
 returns-3 : tie.Need-returns-3
 unfolding kindName
 returns-3 c = rw (c .before .before .before .before .before .match .keys3) (c .before .before .put-bytes3 .ensures .fits)
 
--- src/lines.rt:156:1
 same-length-4 : tie.Need-same-length-4
 same-length-4 c = search needs
 
--- src/lines.rt:156:1
 returns-4 : tie.Need-returns-4
 returns-4 c = c .before .before .put-operation .ensures
 

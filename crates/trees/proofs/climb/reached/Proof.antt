@@ -1,17 +1,26 @@
-use native.Mathlib.Omega.{arith}
 use mathlib.Core.Bool.{Bool}
 use mathlib.Core.Path.{ap}
-use Rattle.trees.specs.Piles.{runTo}
+use borrow.Author.Tests.{eq-eqb, ne-eqb}
+use Rattle.automaton.specs.Refusals.{noRefusal}
+use Rattle.trees.specs.Piles.{runTo, treesAnswer}
 use Rattle.trees.proofs.Stacking.{meets-and}
+use native.Mathlib.Omega.{arith}
 use Rattle.trees.proofs.climb.reached.Statement.{statement}
 use Rattle.trees.proofs.climb.reached.Tie as tie
 
--- src/climb.rt:30:1
+refused-requires : tie.Need-refused-requires
+refused-requires c κs = omega arith
+
 returns : tie.Need-returns
-unfolding runTo
-returns c =
-    ap (λ (b : Bool). record { refusal = record { number = 0 }; states = record { 0 = c .before .args .set }; yes = b })
-    (meets-and (c .before .args .set) (c .before .args .finals .0) (omega arith) (omega arith))
+unfolding treesAnswer
+returns c = rw (ne-eqb (c .before .before .args .trees) 1 (c .before .if1 .taken)) (c .refused .ensures)
+
+returns-2 : tie.Need-returns-2
+unfolding treesAnswer runTo
+returns-2 c =
+    let args = c .before .before .args in
+    rw (eq-eqb (args .trees) 1 (c .before .if1 .left))
+    (ap (λ (b : Bool). record { refusal = noRefusal; states = record { 0 = args .set }; yes = b }) (meets-and (args .set) (args .finals .0) (omega arith) (omega arith)))
 
 pub reached-spec : {M : Type 1} → statement M
-reached-spec = tie.close (tie.spec returns)
+reached-spec = tie.close (tie.spec refused-requires returns returns-2)

@@ -3,7 +3,6 @@ use Rattle.trees.specs.Promises.{noRun}
 use Rattle.trees.proofs.climb.refused.Statement.{statement}
 use Rattle.trees.proofs.climb.refused.Tie as tie
 
--- src/climb.rt:20:1
 returns : tie.Need-returns
 unfolding noRun
 returns c = refl

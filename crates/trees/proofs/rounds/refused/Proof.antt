@@ -3,7 +3,6 @@ use Rattle.trees.specs.Promises.{noStates}
 use Rattle.trees.proofs.rounds.refused.Statement.{statement}
 use Rattle.trees.proofs.rounds.refused.Tie as tie
 
--- src/rounds.rt:15:1
 returns : tie.Need-returns
 unfolding noStates
 returns c = refl

@@ -18,31 +18,24 @@ Inv-loop count arities i₀ i = (i ≤ count) × All (λ a. a ≤ 3) (take i ari
 abbrev μ-loop : tie.MeasureT-loop
 μ-loop count arities i₀ i = count - i
 
--- src/writer.rt:29:5
 loop-holds : tie.Need-loop-holds Inv-loop μ-loop
 loop-holds c = (omega arith, tt)
 
--- src/writer.rt:30:16
 array-read-if1 : tie.Need-array-read-if1 Inv-loop μ-loop
 array-read-if1 c = search needs
 
--- src/writer.rt:31:13
 returns : tie.Need-returns Inv-loop μ-loop
 returns c = decides-no (λ a. omega (arith, all-at (λ a. a ≤ 3) 0 (c .before .before .before .args .t1) (c .before .before .before .args .count) (c .before .before .loop .i) (c .before .loop-test .taken) (omega arith) a))
 
--- src/writer.rt:33:9
 add-i : tie.Need-add-i Inv-loop μ-loop
 add-i c = search needs
 
--- src/writer.rt:29:5
 loop-less : tie.Need-loop-less Inv-loop μ-loop
 loop-less c = search needs
 
--- src/writer.rt:29:5
 loop-again : tie.Need-loop-again Inv-loop μ-loop
 loop-again c = (omega arith, all-next (λ a. a ≤ 3) 0 (c .before .before .before .args .t1) (c .before .before .loop .i) (omega arith) (c .before .before .loop .inv .1) (c .if1 .left))
 
--- src/writer.rt:24:1
 returns-2 : tie.Need-returns-2 Inv-loop μ-loop
 returns-2 c = let e : c .before .loop .i ≡ c .before .before .args .count = le-antisymm (c .before .loop .inv .0) (c .loop-test .left) in decides-yes (rw e at (c .before .loop .inv .1))
 

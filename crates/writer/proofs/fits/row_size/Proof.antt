@@ -11,45 +11,36 @@ use Rattle.writer.proofs.fits.row_size.Lts as lts
 use Rattle.ground.proofs.index.Reads as index-reads
 use Rattle.writer.proofs.fits.sources_fit.Reads as sources-fit-reads
 
--- src/writer.rt:60:9
 returns : tie.Need-returns
 returns c = row-unknown (c .before .args .states) (c .before .args .symbols) (c .before .args .t4) (c .before .args .row) (omega arith) (c .if1 .taken)
 
--- src/writer.rt:63:9
 returns-2 : tie.Need-returns-2
 returns-2 c =
     let a = c .before .before .before .args in
     row-aimless (a .states) (a .symbols) (a .t4) (a .row) (omega arith) (c .if2 .taken)
 
--- src/writer.rt:65:31
 cast-index : tie.Need-cast-index
 cast-index c = search needs
 
--- src/writer.rt:65:23
 array-read-index : tie.Need-array-read-index
 array-read-index c = search needs
 
--- src/writer.rt:65:9
 index-requires : tie.Need-index-requires
 index-requires c κs = search needs
 
--- src/writer.rt:67:9
 sources-fit-requires : tie.Need-sources-fit-requires
 sources-fit-requires c κs =
     let a = c .before .before .before .before .before .args in
     rw (c .before .index .ensures .0) (arity-small (a .symbols) (a .t4) (a .row) (c .before .before .before .before .before .pre .1) (let l : length (a .row .sources) ≡ 3 = search needs in l) (c .before .before .before .before .if1 .left))
 
--- src/writer.rt:68:9
 returns-3 : tie.Need-returns-3
 returns-3 c =
     let a = c .before .before .before .before .before .before .before .args in
     row-sourceless (a .symbols) (a .t4) (a .row) (c .before .before .before .before .before .before .before .pre .1) (let l : length (a .row .sources) ≡ 3 = search needs in l) (c .before .before .before .before .before .before .if1 .left) (a .states) (omega arith) (sym (not-true _ (c .if3 .taken)) ∙ rw (c .before .before .before .index .ensures .0) at (c .before .sources-fit .ensures))
 
--- src/writer.rt:70:5
 add-result : tie.Need-add-result
 add-result c = search needs
 
--- src/writer.rt:54:1
 returns-4 : tie.Need-returns-4
 returns-4 c =
     let a = c .before .before .before .before .before .before .before .args in

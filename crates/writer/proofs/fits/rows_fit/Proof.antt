@@ -16,49 +16,39 @@ Inv-loop count states symbols arities rows length₀ i₀ length i = RowsSoFit s
 abbrev μ-loop : tie.MeasureT-loop
 μ-loop count states symbols arities rows length₀ i₀ length i = count - i
 
--- src/writer.rt:85:5
 loop-holds : tie.Need-loop-holds Inv-loop μ-loop
 loop-holds c = rows-fit-start (c .args .states) (c .args .symbols) (c .args .arities) (c .args .t1) (c .args .count)
 
--- src/writer.rt:86:19
 mul-row : tie.Need-mul-row Inv-loop μ-loop
 mul-row c = search needs
 
--- src/writer.rt:86:19
 array-copy-out-row : tie.Need-array-copy-out-row Inv-loop μ-loop
 array-copy-out-row c = search needs
 
--- src/writer.rt:87:13
 row-size-requires : tie.Need-row-size-requires Inv-loop μ-loop
 row-size-requires c κs = c .before .before .before .pre .1
 
--- src/writer.rt:89:13
 returns : tie.Need-returns Inv-loop μ-loop
 returns c =
     let a = c .before .before .before .before .before .args in
     let l = c .before .before .before .before .loop in
     (omega arith, rows-fit-bad (a .states) (a .symbols) (a .arities) (a .t1) (a .count) (record { symbol = 0; target = 0; sources = [] }) (l .length) (l .i) (l .inv) (omega arith) (c .before .before .before .loop-test .taken) (c .before .row-size .result) (c .before .row-size .ensures) (c .if1 .taken))
 
--- src/writer.rt:91:9
 add-length : tie.Need-add-length Inv-loop μ-loop
 add-length c = omega (arith, c .before .before .before .before .loop .inv .small, c .before .row-size .ensures .small)
 
--- src/writer.rt:92:9
 add-i : tie.Need-add-i Inv-loop μ-loop
 add-i c = search needs
 
--- src/writer.rt:85:5
 loop-less : tie.Need-loop-less Inv-loop μ-loop
 loop-less c = search needs
 
--- src/writer.rt:85:5
 loop-again : tie.Need-loop-again Inv-loop μ-loop
 loop-again c =
     let a = c .before .before .before .before .before .args in
     let l = c .before .before .before .before .loop in
     rows-fit-next (a .states) (a .symbols) (a .arities) (a .t1) (a .count) (record { symbol = 0; target = 0; sources = [] }) (l .length) (l .i) (l .inv) (omega arith) (c .before .before .before .loop-test .taken) (c .before .row-size .result) (c .before .row-size .ensures) (c .if1 .left)
 
--- src/writer.rt:79:1
 returns-2 : tie.Need-returns-2 Inv-loop μ-loop
 returns-2 c =
     let a = c .before .before .args in

@@ -18,36 +18,29 @@ Inv-loop arity states sources i₀ i = (i ≤ arity) × (allBelow states (take i
 abbrev μ-loop : tie.MeasureT-loop
 μ-loop arity states sources i₀ i = arity - i
 
--- src/writer.rt:44:5
 loop-holds : tie.Need-loop-holds Inv-loop μ-loop
 unfolding allBelow
 loop-holds c = (omega arith, refl)
 
--- src/writer.rt:45:22
 array-read-if1 : tie.Need-array-read-if1 Inv-loop μ-loop
 array-read-if1 c = search needs
 
--- src/writer.rt:46:13
 returns : tie.Need-returns Inv-loop μ-loop
 returns c =
     let a = c .before .before .before .args in
     source-bad (a .states) (a .t1) (a .arity) (c .before .before .loop .i) (omega arith) (c .before .loop-test .taken) (c .if1 .taken)
 
--- src/writer.rt:48:9
 add-i : tie.Need-add-i Inv-loop μ-loop
 add-i c = search needs
 
--- src/writer.rt:44:5
 loop-less : tie.Need-loop-less Inv-loop μ-loop
 loop-less c = search needs
 
--- src/writer.rt:44:5
 loop-again : tie.Need-loop-again Inv-loop μ-loop
 loop-again c =
     let a = c .before .before .before .args in
     (omega arith, source-next (a .states) (a .t1) (a .arity) (c .before .before .loop .i) (omega arith) (c .before .loop-test .taken) (c .before .before .loop .inv .1) (c .if1 .left))
 
--- src/writer.rt:39:1
 returns-2 : tie.Need-returns-2 Inv-loop μ-loop
 returns-2 c = let e : c .before .loop .i ≡ c .before .before .args .arity = le-antisymm (c .before .loop .inv .0) (c .loop-test .left) in sym (rw e at (c .before .loop .inv .1))
 

@@ -6,15 +6,12 @@ use Rattle.writer.proofs.puts.put_end.Reads as reads
 use Rattle.writer.proofs.puts.put_end.Lts as lts
 use Rattle.writer.proofs.puts.put_frame.Reads as put-frame-reads
 
--- src/writer.rt:180:5
 put-frame-requires : tie.Need-put-frame-requires
 put-frame-requires c κs = search needs
 
--- src/writer.rt:176:1
 same-length : tie.Need-same-length
 same-length c = search needs
 
--- src/writer.rt:176:1
 returns : tie.Need-returns
 unfolding endRecord fileRecord twoBytes
 returns c = c .before .before .put-frame .ensures

@@ -11,43 +11,33 @@ use Rattle.writer.proofs.puts.put_fields.Lts as lts
 use Rattle.writer.proofs.puts.put_frame.Reads as put-frame-reads
 use Rattle.writer.proofs.puts.put_sources.Reads as put-sources-reads
 
--- src/writer.rt:155:24
 add-put-frame : tie.Need-add-put-frame
 add-put-frame c = search needs
 
--- src/writer.rt:155:5
 put-frame-requires : tie.Need-put-frame-requires
 put-frame-requires c κs = search needs
 
--- src/writer.rt:156:9
 add-out : tie.Need-add-out
 add-out c = search needs
 
--- src/writer.rt:156:5
 slice-write-out : tie.Need-slice-write-out
 slice-write-out c = search needs
 
--- src/writer.rt:157:9
 add-out-2 : tie.Need-add-out-2
 add-out-2 c = search needs
 
--- src/writer.rt:157:5
 slice-write-out-2 : tie.Need-slice-write-out-2
 slice-write-out-2 c = simp length-set (omega arith)
 
--- src/writer.rt:159:22
 add-put-sources : tie.Need-add-put-sources
 add-put-sources c = search needs
 
--- src/writer.rt:159:5
 put-sources-requires : tie.Need-put-sources-requires
 put-sources-requires c κs = simp length-set (omega arith)
 
--- src/writer.rt:151:1
 same-length : tie.Need-same-length
 same-length c = c .before .before .put-sources .kept .0 ∙ simp length-set (c .before .before .before .before .before .before .before .put-frame .kept .0)
 
--- src/writer.rt:151:1
 returns : tie.Need-returns
 returns c =
     let a = c .before .before .before .before .before .before .before .before .before .before .args in

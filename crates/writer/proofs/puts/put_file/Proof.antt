@@ -13,59 +13,48 @@ use Rattle.writer.proofs.puts.put_head.Reads as put-head-reads
 use Rattle.writer.proofs.puts.put_rows.Reads as put-rows-reads
 use Rattle.writer.proofs.puts.put_symbols.Reads as put-symbols-reads
 
--- src/lib.rt:167:5
 put-head-requires : tie.Need-put-head-requires
 put-head-requires c κs =
     let a = c .before .before .before .before .before .args in
     let p = c .before .before .before .before .before .pre in
     put-head-room (a .value) (let l : length (a .value .arities) ≡ 32 = search needs in l) (p .0) (p .1 .0) (now (a .out)) (p .1 .1)
 
--- src/lib.rt:168:39
 cast-put-symbols : tie.Need-cast-put-symbols
 cast-put-symbols c = search needs
 
--- src/lib.rt:168:5
 put-symbols-requires : tie.Need-put-symbols-requires
 put-symbols-requires c κs =
     let a = c .before .before .before .before .before .before .before .before .before .args in
     let p = c .before .before .before .before .before .before .before .before .before .pre in
     (put-symbols-room (a .value) (let l : length (a .value .arities) ≡ 32 = search needs in l) (p .0) (p .1 .0) (now (a .out)) (p .1 .1) .0, omega (arith, c .before .before .before .put-head .kept .0, put-symbols-room (a .value) (let l : length (a .value .arities) ≡ 32 = search needs in l) (p .0) (p .1 .0) (now (a .out)) (p .1 .1) .1))
 
--- src/lib.rt:169:46
 cast-put-rows : tie.Need-cast-put-rows
 cast-put-rows c = search needs
 
--- src/lib.rt:169:41
 mul-put-rows : tie.Need-mul-put-rows
 mul-put-rows c = search needs
 
--- src/lib.rt:169:37
 add-put-rows : tie.Need-add-put-rows
 add-put-rows c = search needs
 
--- src/lib.rt:169:71
 cast-put-rows-2 : tie.Need-cast-put-rows-2
 cast-put-rows-2 c = search needs
 
--- src/lib.rt:169:9
 put-rows-requires : tie.Need-put-rows-requires
 put-rows-requires c κs =
     let a = c .before .before .before .before .before .before .before .before .before .before .before .before .before .args in
     let p = c .before .before .before .before .before .before .before .before .before .before .before .before .before .pre in
     put-rows-room (a .value) (let l : length (a .value .arities) ≡ 32 = search needs in l) (p .0) (p .1 .0) (now (a .out)) (p .1 .1) (c .before .before .before .put-symbols .last .0) (c .before .before .before .put-symbols .kept .0 ∙ c .before .before .before .before .before .before .before .put-head .kept .0)
 
--- src/lib.rt:170:5
 put-end-requires : tie.Need-put-end-requires
 put-end-requires c κs =
     let a = c .before .before .before .before .before .before .before .before .before .before .before .before .before .before .before .before .before .args in
     let p = c .before .before .before .before .before .before .before .before .before .before .before .before .before .before .before .before .before .pre in
     put-end-room (a .value) (let l : length (a .value .arities) ≡ 32 = search needs in l) (p .0) (p .1 .0) (now (a .out)) (p .1 .1) (c .before .before .before .put-rows .last .0) (c .before .before .before .put-rows .result) (c .before .before .before .put-rows .kept .0 ∙ c .before .before .before .before .before .before .before .put-symbols .kept .0 ∙ c .before .before .before .before .before .before .before .before .before .before .before .put-head .kept .0) (c .before .before .before .put-rows .ensures .0)
 
--- src/lib.rt:157:1
 same-length : tie.Need-same-length
 same-length c = c .before .before .put-end .kept .0 ∙ c .before .before .before .before .before .before .put-rows .kept .0 ∙ c .before .before .before .before .before .before .before .before .before .before .put-symbols .kept .0 ∙ c .before .before .before .before .before .before .before .before .before .before .before .before .before .before .put-head .kept .0
 
--- src/lib.rt:157:1
 returns : tie.Need-returns
 returns c =
     let a = c .before .before .before .before .before .before .before .before .before .before .before .before .before .before .before .before .before .before .before .before .args in

@@ -7,39 +7,30 @@ use Rattle.writer.proofs.puts.put_frame.Tie as tie
 use Rattle.writer.proofs.puts.put_frame.Reads as reads
 use Rattle.writer.proofs.puts.put_frame.Lts as lts
 
--- src/writer.rt:101:5
 slice-write-out : tie.Need-slice-write-out
 slice-write-out c = search needs
 
--- src/writer.rt:102:9
 add-out : tie.Need-add-out
 add-out c = search needs
 
--- src/writer.rt:102:5
 slice-write-out-2 : tie.Need-slice-write-out-2
 slice-write-out-2 c = simp length-set (omega arith)
 
--- src/writer.rt:103:9
 add-out-2 : tie.Need-add-out-2
 add-out-2 c = search needs
 
--- src/writer.rt:103:5
 slice-write-out-3 : tie.Need-slice-write-out-3
 slice-write-out-3 c = simp length-set (omega arith)
 
--- src/writer.rt:104:9
 add-out-3 : tie.Need-add-out-3
 add-out-3 c = search needs
 
--- src/writer.rt:104:5
 slice-write-out-4 : tie.Need-slice-write-out-4
 slice-write-out-4 c = simp length-set (omega arith)
 
--- src/writer.rt:97:1
 same-length : tie.Need-same-length
 same-length c = search needs
 
--- src/writer.rt:97:1
 returns : tie.Need-returns
 returns c = four-stores (c .args .out .now) (c .args .at) (c .args .size) 0 (c .args .kind) 0
 

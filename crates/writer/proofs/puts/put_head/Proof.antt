@@ -8,35 +8,27 @@ use Rattle.writer.proofs.puts.put_head.Reads as reads
 use Rattle.writer.proofs.puts.put_head.Lts as lts
 use Rattle.writer.proofs.puts.put_frame.Reads as put-frame-reads
 
--- src/writer.rt:111:5
 put-frame-requires : tie.Need-put-frame-requires
 put-frame-requires c κs = search needs
 
--- src/writer.rt:112:5
 slice-write-out : tie.Need-slice-write-out
 slice-write-out c = search needs
 
--- src/writer.rt:113:14
 cast-out : tie.Need-cast-out
 cast-out c = search needs
 
--- src/writer.rt:113:5
 slice-write-out-2 : tie.Need-slice-write-out-2
 slice-write-out-2 c = simp length-set (omega arith)
 
--- src/writer.rt:114:14
 cast-out-2 : tie.Need-cast-out-2
 cast-out-2 c = search needs
 
--- src/writer.rt:114:5
 slice-write-out-3 : tie.Need-slice-write-out-3
 slice-write-out-3 c = search needs
 
--- src/writer.rt:107:1
 same-length : tie.Need-same-length
 same-length c = search needs
 
--- src/writer.rt:107:1
 returns : tie.Need-returns
 unfolding headRecord fileRecord twoBytes
 returns c = rw (c .before .before .put-frame .ensures)

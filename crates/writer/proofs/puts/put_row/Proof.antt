@@ -14,41 +14,33 @@ use Rattle.writer.proofs.puts.put_row.Lts as lts
 use Rattle.ground.proofs.index.Reads as index-reads
 use Rattle.writer.proofs.puts.put_fields.Reads as put-fields-reads
 
--- src/writer.rt:168:25
 cast-arity : tie.Need-cast-arity
 cast-arity c = omega (arith, c .before .pre .less, c .before .pre .known-few)
 
--- src/writer.rt:168:17
 array-read-arity : tie.Need-array-read-arity
 array-read-arity c = omega (arith, c .before .pre .less, c .before .pre .known-few)
 
--- src/writer.rt:169:5
 put-fields-requires : tie.Need-put-fields-requires
 put-fields-requires c κs =
     let a = c .before .before .args in
     let p = c .before .before .pre in
     (arity-small (a .symbols) (a .t5) (a .row) (p .small) (let l : length (a .row .sources) ≡ 3 = search needs in l) (p .less), omega (arith, p .room, record-one (a .symbols) (a .t5) (a .row) (p .small) (let l : length (a .row .sources) ≡ 3 = search needs in l) (p .less)))
 
--- src/writer.rt:170:15
 index-requires : tie.Need-index-requires
 index-requires c κs = search needs
 
--- src/writer.rt:170:11
 add-result : tie.Need-add-result
 add-result c = omega (arith, c .index .ensures .1)
 
--- src/writer.rt:170:5
 add-result-2 : tie.Need-add-result-2
 add-result-2 c =
     let a = c .before .before .before .before .before .before .args in
     let p = c .before .before .before .before .before .before .pre in
     omega (arith, c .index .ensures .0, p .room, record-one (a .symbols) (a .t5) (a .row) (p .small) (let l : length (a .row .sources) ≡ 3 = search needs in l) (p .less))
 
--- src/writer.rt:163:1
 same-length : tie.Need-same-length
 same-length c = c .before .before .before .put-fields .kept .0
 
--- src/writer.rt:163:1
 returns : tie.Need-returns
 returns c =
     let a = c .before .before .before .before .before .before .args in

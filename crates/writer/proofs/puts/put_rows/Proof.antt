@@ -16,47 +16,38 @@ Inv-loop out₀ start count symbols arities rows at₀ i₀ out at i = RowsSoPut
 abbrev μ-loop : tie.MeasureT-loop
 μ-loop out₀ start count symbols arities rows at₀ i₀ out at i = count - i
 
--- src/writer.rt:180:5
 loop-holds : tie.Need-loop-holds Inv-loop μ-loop
 loop-holds c =
     let a = c .before .args in
     rows-put-start (a .out .now) (a .start) (a .symbols) (a .arities) (a .t3) (a .count)
 
--- src/writer.rt:181:19
 mul-row : tie.Need-mul-row Inv-loop μ-loop
 mul-row c = search needs
 
--- src/writer.rt:181:19
 array-copy-out-row : tie.Need-array-copy-out-row Inv-loop μ-loop
 array-copy-out-row c = search needs
 
--- src/writer.rt:182:9
 put-row-requires : tie.Need-put-row-requires Inv-loop μ-loop
 put-row-requires c κs =
     let a = c .before .before .before .before .before .args in
     let l = c .before .before .before .loop in
     row-there (a .out .now) (a .start) (a .symbols) (a .arities) (a .t3) (a .count) (c .before .before .before .before .before .pre) (omega arith) (record { symbol = 0; target = 0; sources = [] }) (l .out) (l .at) (l .i) (l .inv) (c .before .before .loop-test .taken) (omega arith)
 
--- src/writer.rt:183:9
 add-i : tie.Need-add-i Inv-loop μ-loop
 add-i c = search needs
 
--- src/writer.rt:180:5
 loop-less : tie.Need-loop-less Inv-loop μ-loop
 loop-less c = search needs
 
--- src/writer.rt:180:5
 loop-again : tie.Need-loop-again Inv-loop μ-loop
 loop-again c =
     let a = c .before .before .before .before .before .before .before .before .args in
     let l = c .before .before .before .before .before .before .loop in
     rows-put-next (a .out .now) (a .start) (a .symbols) (a .arities) (a .t3) (a .count) (c .before .before .before .before .before .before .before .before .pre) (omega arith) (record { symbol = 0; target = 0; sources = [] }) (l .out) (l .at) (l .i) (l .inv) (c .before .before .before .before .before .loop-test .taken) (omega arith) (c .before .before .put-row .last .0) (c .before .before .put-row .result) (c .before .before .put-row .kept .0) (c .before .before .put-row .ensures)
 
--- src/writer.rt:174:1
 same-length : tie.Need-same-length Inv-loop μ-loop
 same-length c = c .before .loop .inv .same
 
--- src/writer.rt:174:1
 returns : tie.Need-returns Inv-loop μ-loop
 returns c =
     let a = c .before .before .before .args in

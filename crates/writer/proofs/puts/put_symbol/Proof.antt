@@ -8,23 +8,18 @@ use Rattle.writer.proofs.puts.put_symbol.Reads as reads
 use Rattle.writer.proofs.puts.put_symbol.Lts as lts
 use Rattle.writer.proofs.puts.put_frame.Reads as put-frame-reads
 
--- src/writer.rt:121:5
 put-frame-requires : tie.Need-put-frame-requires
 put-frame-requires c κs = search needs
 
--- src/writer.rt:122:9
 add-out : tie.Need-add-out
 add-out c = search needs
 
--- src/writer.rt:122:5
 slice-write-out : tie.Need-slice-write-out
 slice-write-out c = search needs
 
--- src/writer.rt:117:1
 same-length : tie.Need-same-length
 same-length c = search needs
 
--- src/writer.rt:117:1
 returns : tie.Need-returns
 unfolding symbolRecord fileRecord twoBytes
 returns c =

@@ -20,47 +20,37 @@ Inv-loop out₀ count arities i₀ out i = (i ≤ count) × (length out ≡ leng
 abbrev μ-loop : tie.MeasureT-loop
 μ-loop out₀ count arities i₀ out i = count - i
 
--- src/writer.rt:130:5
 loop-holds : tie.Need-loop-holds Inv-loop μ-loop
 unfolding each
 loop-holds c = (omega arith, refl, refl)
 
--- src/writer.rt:131:29
 mul-put-symbol : tie.Need-mul-put-symbol Inv-loop μ-loop
 mul-put-symbol c = search needs
 
--- src/writer.rt:131:25
 add-put-symbol : tie.Need-add-put-symbol Inv-loop μ-loop
 add-put-symbol c = search needs
 
--- src/writer.rt:131:36
 array-read-put-symbol : tie.Need-array-read-put-symbol Inv-loop μ-loop
 array-read-put-symbol c = search needs
 
--- src/writer.rt:131:9
 put-symbol-requires : tie.Need-put-symbol-requires Inv-loop μ-loop
 put-symbol-requires c κs = omega arith
 
--- src/writer.rt:132:9
 add-i : tie.Need-add-i Inv-loop μ-loop
 add-i c = search needs
 
--- src/writer.rt:130:5
 loop-less : tie.Need-loop-less Inv-loop μ-loop
 loop-less c = search needs
 
--- src/writer.rt:130:5
 loop-again : tie.Need-loop-again Inv-loop μ-loop
 loop-again c =
     let a = c .before .before .before .before .before .before .before .args in
     let l = c .before .before .before .before .before .loop in
     (omega arith, c .before .before .put-symbol .kept .0 ∙ l .inv .1, c .before .before .put-symbol .ensures ∙ ap (λ (o : List ℕ). sets o (7 + 5 * (l .i)) (symbolRecord (getD (a .t2) (l .i) 0))) (l .inv .2) ∙ symbols-put-next (a .out .now) (a .t2) (l .i) (omega arith))
 
--- src/writer.rt:125:1
 same-length : tie.Need-same-length Inv-loop μ-loop
 same-length c = c .before .loop .inv .1
 
--- src/writer.rt:125:1
 returns : tie.Need-returns Inv-loop μ-loop
 returns c = let e : c .before .loop .i ≡ c .before .before .before .args .count = le-antisymm (c .before .loop .inv .0) (c .loop-test .left) in rw e at (c .before .loop .inv .2)
 
