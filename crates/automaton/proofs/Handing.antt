@@ -10,8 +10,8 @@ use Rattle.automaton.specs.Checks.{Verdict, holds, fault, verdict}
 use Rattle.automaton.specs.Refusals.{noRefusal, faultRefusal}
 use Rattle.automaton.specs.Answers.{placed, heldBy, readingOf, readAnswer}
 use Rattle.automaton.specs.Handed.{Handed}
-use Rattle.automaton.proofs.Faults.{fault-some}
-use Rattle.automaton.proofs.Pair.{verdict-valid}
+use Rattle.automaton.proofs.Files.Faults.{fault-some}
+use Rattle.automaton.proofs.Files.Pair.{verdict-valid}
 use Rattle.automaton.proofs.Values.{held-placed}
 
 -- the fault that a reading refuses

@@ -1,5 +1,5 @@
 -- What a value says and what a file holds: the value of what a file holds says just that, and which values a file can hold is decided.
-use Prim.Native.Nat.{ℕ, _-_, _^_, _≤_, _<_}
+use Prim.Native.Nat.{ℕ, _^_, _≤_, _<_}
 use mathlib.Core.Path.{_≡_, refl, sym, ap, ap₂, _∙_}
 use mathlib.Core.List.{List, [], _∷_, map}
 use mathlib.Core.Logic.{_↔_}
@@ -14,9 +14,9 @@ use Rattle.automaton.specs.Answers.{placedRow, unusedRow, placed, readAn
 use Rattle.automaton.specs.declared.Row.{Row}
 use Rattle.automaton.specs.declared.Reading.{Reading}
 use Rattle.ground.proofs.Deciding.{both, decided-as, dec-all}
-use Rattle.automaton.proofs.Records.{Bytes}
-use Rattle.automaton.proofs.Pair.{verdict-valid, verdict-file}
-use Rattle.automaton.proofs.Files.{file-verdict, all-get}
+use Rattle.automaton.proofs.Files.Records.{Bytes}
+use Rattle.automaton.proofs.Files.Pair.{verdict-valid, verdict-file}
+use Rattle.automaton.proofs.Files.FileOf.{file-verdict, all-get}
 use Rattle.ground.proofs.Places.{filled-length, filled-take, firsts-take}
 
 -- a byte string reads as an automaton exactly when that is valid and the bytes are its file

@@ -1,5 +1,5 @@
 -- The value of an automaton, what it says, and what `read` returns for a file's bytes [3.17 to 3.19].
-use Prim.Native.Nat.{ℕ, _-_}
+use Prim.Native.Nat.{ℕ}
 use mathlib.Core.List.{List, map}
 use lib.ListN.{length, getD, replicate}
 use Rattle.automaton.specs.declared.Row.{Row}

@@ -9,7 +9,7 @@ ghost use Rattle.automaton.specs.Refusals.{refusal};
 ghost use Rattle.automaton.specs.Answers.{unusedRow, noAutomaton, readAnswer};
 
 // The limits of an automaton, as numbers to compare with and as numbers of places.
-pub const MOST_STATES: u8 = 16;
+pub const MOST_STATES: u8 = sets::MOST_STATES;
 
 pub const MOST_SYMBOLS: u8 = 32;
 
@@ -36,7 +36,7 @@ impl Refusal {
     // A value that no file can hold.
     pub const UNFIT: Refusal = Refusal { number: 4 };
 
-    // A lent output or scratch is too short.
+    // What was lent to be filled is too small.
     pub const SHORT: Refusal = Refusal { number: 6 };
 
     // The words are not one tree.

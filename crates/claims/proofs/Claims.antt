@@ -1,15 +1,15 @@
 -- All claims are proved.
 use Rattle.claims.specs.Claims.{Claims}
-use Rattle.claims.proofs.Refusals.{refuses-exactly}
-use Rattle.claims.proofs.Meanings.{means-what-it-should}
-use Rattle.claims.proofs.Slips.{no-slip}
-use Rattle.claims.proofs.Conversions.{converts-faithfully}
-use Rattle.claims.proofs.Printings.{prints-faithfully}
-use Rattle.claims.proofs.Uniqueness.{each-once}
-use Rattle.claims.proofs.Kept.{each-kept}
-use Rattle.claims.proofs.Shams.{no-sham}
-use Rattle.claims.proofs.WorkedDrafts.{worked-drafts}
-use Rattle.claims.proofs.Computed.{computed}
+use Rattle.claims.proofs.Refusing.Refusals.{refuses-exactly}
+use Rattle.claims.proofs.Meaning.Meanings.{means-what-it-should}
+use Rattle.claims.proofs.Meaning.Slips.{no-slip}
+use Rattle.claims.proofs.Meaning.Conversions.{converts-faithfully}
+use Rattle.claims.proofs.Meaning.Printings.{prints-faithfully}
+use Rattle.claims.proofs.Outcomes.Uniqueness.{each-once}
+use Rattle.claims.proofs.Outcomes.Kept.{each-kept}
+use Rattle.claims.proofs.Worked.Shams.{no-sham}
+use Rattle.claims.proofs.Worked.WorkedDrafts.{worked-drafts}
+use Rattle.claims.proofs.Computing.Computed.{computed}
 
 pub claims : Claims
 claims =

@@ -16,14 +16,14 @@ use Rattle.automaton.specs.Handed.{Handed}
 use Rattle.theory.specs.declared.NodeRow.{NodeRow}
 use Rattle.theory.specs.RowLists.{ascending, finalStates, finalTarget, listPlaces}
 use Rattle.theory.specs.Stages.{already, holesTable, rulesTable, startTable, ruleRows, start, eliminatedStages, stageAfter, joinStage, converted, nodes}
-use Rattle.theory.proofs.Grows.{grown-longer, join-grows, stages-grow, joinStage-grows}
-use Rattle.theory.proofs.StartTable.{start-mirrors, holes-table}
-use Rattle.theory.proofs.Bound.{start-room, start-rows, ruleRows-count, finals-few}
+use Rattle.theory.proofs.Nodes.Grows.{grown-longer, join-grows, stages-grow, joinStage-grows}
+use Rattle.theory.proofs.Nodes.StartTable.{start-mirrors, holes-table}
+use Rattle.theory.proofs.Counting.Bound.{start-room, start-rows, ruleRows-count, finals-few}
 use Rattle.theory.proofs.Theorem.{partly-ascending}
 use Rattle.elimination.specs.declared.maker.Got.{Got}
 use Rattle.elimination.specs.declared.rows.Rows.{Rows}
 use Rattle.elimination.specs.declared.rows.Staged.{Staged}
-use Rattle.elimination.specs.Inside.{GivesNode, GivesTable, GoesOn, TableOn, GivesStage, StagesOn, Sorted, Tidy, LowRows, rowsIn, listOf, stageOf, picks, pickedMade}
+use Rattle.elimination.specs.Inside.{GivesNode, GivesTable, GoesOn, TableOn, GivesStage, StagesOn, Workable, Tidy, LowRows, rowsIn, listOf, stageOf, picks, pickedMade}
 use Rattle.elimination.proofs.Makers.{gives-other}
 use Rattle.elimination.proofs.RowList.{rows-of-list, tidy-of}
 use Rattle.elimination.proofs.Joining.{picked-every}
@@ -74,12 +74,12 @@ module _ (value : Automaton) (handed : Handed value) where
 
 -- ---- the states
 
-start-sorted : (held : Held) → Valid held → Sorted (start held)
+start-sorted : (held : Held) → Valid held → Workable (start held)
 start-sorted held v =
     record { few = (let a = v .few-rules in let b = finals-few held in let c = v .few-states in omega (arith, start-rows held)); low = start-mirrors held v .low }
 
 pub partly-gives : (held : Held) → Valid held → (before w1 : List ℕ) (begun : Staged) → GivesStage before (start held) w1 begun → (k : ℕ) → k ≤ held .states → (w2 : List ℕ) (r : Staged)
-    → StagesOn (λ stage. Sorted stage × (k < length (stage .table))) (eliminatedStages (ascending k)) w1 begun w2 r → GivesStage before (stageAfter k held) w2 r
+    → StagesOn (λ stage. Workable stage × (k < length (stage .table))) (eliminatedStages (ascending k)) w1 begun w2 r → GivesStage before (stageAfter k held) w2 r
 unfolding stageAfter
 partly-gives held v before w1 begun g k h w2 r x = x .goes before (start held) g (start-sorted held v, omega (arith, start-room held v))
 

@@ -19,8 +19,8 @@ use Rattle.expressions.specs.Words.{nodeIn}
 use Rattle.theory.specs.declared.NodeRow.{NodeRow}
 use Rattle.theory.specs.RowLists.{finalTarget}
 use Rattle.theory.specs.Stages.{Stage, Made, already, nodes, altMade, joinMadeFrom, joinMade, joinStage, loopingNode, incomingNode}
-use Rattle.theory.proofs.Grows.{Grown, grown-none, grown-then, grown-longer, grown-node, alt-grows, joinFrom-grows}
-use Rattle.theory.proofs.MirrorRows.{low-nodes}
+use Rattle.theory.proofs.Nodes.Grows.{Grown, grown-none, grown-then, grown-longer, grown-node, alt-grows, joinFrom-grows}
+use Rattle.theory.proofs.Nodes.MirrorRows.{low-nodes}
 use Rattle.elimination.specs.declared.maker.Got.{Got}
 use Rattle.elimination.specs.declared.rows.Rows.{Rows}
 use Rattle.elimination.specs.Inside.{Ready, HasNode, GivesNode, GoesOn, noRow, rowsIn, Tidy, LowRows, stageOf, openIn, pickedBy, picks, pickedMade, joinedRow}

@@ -20,10 +20,10 @@ use Rattle.expressions.specs.Soundness.{Fits, mostNodes}
 use Rattle.expressions.specs.Making.{Makes, Room}
 use Rattle.expressions.proofs.Making.{alt-fits, cat-fits, iter-fits, made-only, made-words}
 use Rattle.theory.specs.Stages.{Made, withNode, holeAt, already, added, isEmptyNode, isHoleNode, altMade, catMade, iterMade, joinMadeFrom, joinMade}
-use Rattle.theory.proofs.Grows.{Grown, grown-none, grown-longer, with-grows, alt-grows, cat-grows, iter-grows}
-use Rattle.theory.proofs.Mirror.{Low, low-grown}
-use Rattle.theory.proofs.StartTable.{with-length}
-use Rattle.theory.proofs.Turns.{alt-left-empty, alt-right-empty, alt-new, cat-hole, cat-new, iter-empty, iter-new}
+use Rattle.theory.proofs.Nodes.Grows.{Grown, grown-none, grown-longer, with-grows, alt-grows, cat-grows, iter-grows}
+use Rattle.theory.proofs.Nodes.Mirror.{Low, low-grown}
+use Rattle.theory.proofs.Nodes.StartTable.{with-length}
+use Rattle.theory.proofs.Nodes.Turns.{alt-left-empty, alt-right-empty, alt-new, cat-hole, cat-new, iter-empty, iter-new}
 use Rattle.elimination.specs.declared.maker.Got.{Got}
 use Rattle.elimination.specs.Answers.{writtenTo}
 use Rattle.elimination.specs.Inside.{Ready, noRoom, HasNode, GivesNode, GoesOn}

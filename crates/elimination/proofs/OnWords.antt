@@ -11,7 +11,7 @@ use Rattle.expressions.proofs.Words.{length-words, table-words}
 use Rattle.theory.specs.declared.NodeRow.{NodeRow}
 use Rattle.theory.specs.Stages.{Stage, Made}
 use Rattle.theory.specs.Theorem.{PartlyConverted, WhollyConverted}
-use Rattle.theory.proofs.Bound.{bound-file}
+use Rattle.theory.proofs.Counting.Bound.{bound-file}
 
 -- a sound table's words are a sound table
 words-sound : (table : Table) (rest : List ℕ) (answer : ℕ) → SoundNodes table → length table ≤ mostNodes → answer < length table → Sound (wordsOf table ++ rest) (length table) answer

@@ -13,15 +13,15 @@ use Rattle.expressions.specs.declared.Node.{Node}
 use Rattle.expressions.specs.Nodes.{Table}
 use Rattle.theory.specs.declared.NodeRow.{NodeRow}
 use Rattle.theory.specs.Stages.{Stage, Made, already, holeAt, catMade, iterMade, joinMade, nodes, loopingNode, incomingNode, remainsNode, standInMade, replacedMade, replacedRows, eliminatedStage}
-use Rattle.theory.proofs.Grows.{Grown, grown-then, grown-longer, grown-node, cat-grows, iter-grows, join-grows, standIn-grows, replaced-grows, rows-grow}
-use Rattle.theory.proofs.Turns.{remains-other}
-use Rattle.theory.proofs.Mirror.{Low}
-use Rattle.theory.proofs.MirrorRows.{low-nodes, low-rows-grown}
-use Rattle.theory.proofs.Bound.{step-rows}
+use Rattle.theory.proofs.Nodes.Grows.{Grown, grown-then, grown-longer, grown-node, cat-grows, iter-grows, join-grows, standIn-grows, replaced-grows, rows-grow}
+use Rattle.theory.proofs.Nodes.Turns.{remains-other}
+use Rattle.theory.proofs.Nodes.Mirror.{Low}
+use Rattle.theory.proofs.Nodes.MirrorRows.{low-nodes, low-rows-grown}
+use Rattle.theory.proofs.Counting.Bound.{step-rows}
 use Rattle.elimination.specs.declared.maker.Got.{Got}
 use Rattle.elimination.specs.declared.rows.Rows.{Rows}
 use Rattle.elimination.specs.declared.rows.Staged.{Staged}
-use Rattle.elimination.specs.Inside.{Ready, GivesNode, GoesOn, rowsIn, LowRows, stageOf, GivesStage, Sorted, RowsOn, StagesOn, picks, pickedMade, loopMade}
+use Rattle.elimination.specs.Inside.{Ready, GivesNode, GoesOn, rowsIn, LowRows, stageOf, GivesStage, Workable, RowsOn, StagesOn, picks, pickedMade, loopMade}
 use Rattle.elimination.proofs.Room.{ready-less, dec-ready}
 use Rattle.elimination.proofs.Makers.{gives-other, cat-low, iter-low, join-low}
 use Rattle.elimination.proofs.Joining.{those-same, picks-looping, picks-incoming}
@@ -148,9 +148,9 @@ standIn-low : (q : ℕ) → q < stateWidth → (stage : Stage) → holeAt q < le
 standIn-low q hq stage h low = rw (← (standIn-is q hq stage low)) (cat-low q (B-made q stage .table) (loopMade q stage .node) (B-made q stage .node) (B-low q stage h low))
 
 -- a stage that a state was taken out of is such a stage again
-pub eliminated-sorted : (q : ℕ) → q < stateWidth → (stage : Stage) → holeAt q < length (stage .table) → Sorted stage → Sorted (eliminatedStage q stage)
+pub eliminated-workable : (q : ℕ) → q < stateWidth → (stage : Stage) → holeAt q < length (stage .table) → Workable stage → Workable (eliminatedStage q stage)
 unfolding eliminatedStage
-eliminated-sorted q hq stage h s =
+eliminated-workable q hq stage h s =
     record {
       few = (let f = s .few in let r = step-rows q stage in omega arith);
       low =
@@ -182,7 +182,7 @@ module _ (q : ℕ) (hq : q < stateWidth) (words : List ℕ) (staged : Staged) (w
     (w2 : List ℕ) (r : Staged)
     (xr : RowsOn (λ made. (made .node < length (made .table)) × LowRows (rowsIn (staged .list)) (made .table))
     (λ made. replacedRows q (made .node) (made .table) (those (remainsNode q (made .table)) (rowsIn (staged .list)))) w1 x w2 r) where
-  goes : (before : List ℕ) (stage : Stage) → GivesStage before stage words staged → Sorted stage × (holeAt q < length (stage .table)) → GivesStage before (eliminatedStage q stage) w2 r
+  goes : (before : List ℕ) (stage : Stage) → GivesStage before stage words staged → Workable stage × (holeAt q < length (stage .table)) → GivesStage before (eliminatedStage q stage) w2 r
   unfolding eliminatedStage
   goes before stage g s =
       let X = standInMade q stage in
@@ -200,5 +200,5 @@ module _ (q : ℕ) (hq : q < stateWidth) (words : List ℕ) (staged : Staged) (w
       (xr .goes before X gx (λ room.
       (standIn-low q hq stage (s .1) (s .0 .low), low-rows-grown grew rows (low (ready-less room (grown-longer grew))))))
 
-  pub taken-out : StagesOn (λ stage. Sorted stage × (holeAt q < length (stage .table))) (eliminatedStage q) words staged w2 r
+  pub taken-out : StagesOn (λ stage. Workable stage × (holeAt q < length (stage .table))) (eliminatedStage q) words staged w2 r
   taken-out = record { tidy = xr .tidy; goes = goes }

@@ -8,7 +8,7 @@ use lib.ListN.{length, drop}
 use Rattle.automaton.specs.Held.{Held}
 use Rattle.automaton.specs.Checks.{Verdict, holds, fault, verdict}
 use Rattle.ground.proofs.Deciding.{alike}
-use Rattle.automaton.proofs.Pair.{verdict-valid}
+use Rattle.automaton.proofs.Files.Pair.{verdict-valid}
 use Rattle.expressions.specs.Soundness.{Sound}
 use Rattle.expressions.specs.Words.{nodeWidth}
 use Rattle.elimination.specs.declared.Partly.{Partly}

@@ -2,7 +2,6 @@
 use Prim.Native.Nat.{ℕ, _+_, _*_, _<_, _≤_}
 use native.Mathlib.Omega.{arith}
 use mathlib.Core.Path.{_≡_, refl, sym, _∙_, ap, ap₂, subst}
-use mathlib.Core.Bool.{true, false}
 use mathlib.Core.List.{List, [], _∷_, _++_, map, map-append}
 use lib.ListN.{length, getD, set, take, drop, replicate, length-map}
 use lib.Seq.{length-take-le}
@@ -17,7 +16,7 @@ use Rattle.automaton.specs.Held.{Held, Valid}
 use Rattle.automaton.specs.Checks.{Verdict, holds, fault, verdict}
 use Rattle.automaton.specs.Refusals.{refusal, noRefusal}
 use Rattle.automaton.specs.Answers.{heldBy, readAnswer}
-use Rattle.automaton.proofs.Pair.{verdict-valid}
+use Rattle.automaton.proofs.Files.Pair.{verdict-valid}
 use Rattle.automaton.proofs.Handing.{read-refused, read-done, read-held}
 use Rattle.expressions.specs.declared.Node.{Node}
 use Rattle.expressions.specs.Nodes.{Table}
@@ -28,7 +27,7 @@ use Rattle.theory.specs.declared.NodeRow.{NodeRow}
 use Rattle.theory.specs.RowLists.{listPlaces}
 use Rattle.theory.specs.Stages.{Stage, Made, waitsFor, stageAfter, converted}
 use Rattle.theory.specs.Theorem.{PartlyConverted, WhollyConverted}
-use Rattle.theory.proofs.Bound.{bound-file}
+use Rattle.theory.proofs.Counting.Bound.{bound-file}
 use Rattle.theory.proofs.Theorem.{partly-ascending, wholly-ascending}
 use Rattle.elimination.specs.declared.maker.Got.{Got}
 use Rattle.elimination.specs.declared.rows.Rows.{Rows}
@@ -38,7 +37,7 @@ use Rattle.elimination.specs.declared.Partly.{Partly}
 use Rattle.elimination.specs.declared.Wholly.{Wholly}
 use Rattle.elimination.specs.Answers.{wholeNodes, writtenTo, unusedPlace, listRow, listOfRows, refusedPartly, partlyDone, rowOfPlace, stageAnswered, PartlyAnswered, refusedWhole, whollyDone, madeAnswered, WhollyAnswered}
 use Rattle.elimination.specs.Inside.{Ready, HasNode, GivesNode, noRow, rowsIn, Tidy, LowRows, HasStage, GivesStage, reportedRow, reportedRows, ReportsStop, ReportsAnswer, PartlyOf, WhollyOf}
-use Rattle.elimination.proofs.Room.{never, written-node}
+use Rattle.elimination.proofs.Room.{written-node}
 use Rattle.elimination.proofs.RowList.{rows-count, rows-more, rows-all}
 use Rattle.elimination.proofs.Conversion.{stage-low}
 

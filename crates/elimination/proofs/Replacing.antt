@@ -5,7 +5,7 @@ use native.Mathlib.Nat.{mod-eq-of-lt}
 use mathlib.Core.Path.{_≡_, refl, sym, _∙_, ap, ap₂, subst}
 use mathlib.Core.Bool.{Bool, true, false, cond, not}
 use mathlib.Core.List.{List, [], _∷_, _++_, append-nil}
-use lib.ListN.{length, getD, set, take, replicate, length-append, length-set}
+use lib.ListN.{length, getD, set, take, length-set}
 use borrow.Author.Tests.{eq-eqb, ne-eqb}
 use Rattle.sets.specs.Members.{has, stateWidth}
 use Rattle.sets.proofs.Membership.{has-cut}
@@ -17,11 +17,11 @@ use Rattle.expressions.specs.Words.{nodeIn}
 use Rattle.theory.specs.declared.NodeRow.{NodeRow}
 use Rattle.theory.specs.RowLists.{listPlaces}
 use Rattle.theory.specs.Stages.{Stage, Made, already, catMade, outgoingNode, replacedMade, replacedRows, remainsNode}
-use Rattle.theory.proofs.Grows.{Grown, grown-none, grown-then, grown-longer, cat-grows, replaced-grows, rows-grow}
-use Rattle.theory.proofs.Turns.{those-none, those-take, those-skip, remains-other, outgoing-open, replaced-outgoing, replaced-kept}
+use Rattle.theory.proofs.Nodes.Grows.{Grown, grown-none, grown-then, grown-longer, cat-grows, replaced-grows, rows-grow}
+use Rattle.theory.proofs.Nodes.Turns.{those-none, those-take, those-skip, remains-other, outgoing-open, replaced-outgoing, replaced-kept}
 use Rattle.elimination.specs.declared.maker.Got.{Got}
 use Rattle.elimination.specs.declared.rows.Rows.{Rows}
-use Rattle.elimination.specs.Inside.{Ready, HasNode, GivesNode, GoesOn, noRow, rowsIn, listOf, Tidy, LowRows, GivesStage, RowsOn, openIn}
+use Rattle.elimination.specs.Inside.{Ready, HasNode, GivesNode, GoesOn, noRow, rowsIn, Tidy, LowRows, GivesStage, RowsOn, openIn}
 use Rattle.elimination.proofs.Room.{ready-less}
 use Rattle.elimination.proofs.Makers.{gives-same, gives-other, has-node, cat-low}
 use Rattle.elimination.proofs.RowList.{row-low, rows-more, rows-all, rows-put}

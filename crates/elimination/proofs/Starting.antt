@@ -25,13 +25,13 @@ use Rattle.expressions.proofs.Making.{empty-fits, hole-fits}
 use Rattle.theory.specs.declared.NodeRow.{NodeRow}
 use Rattle.theory.specs.RowLists.{ascending, listPlaces, finalTarget}
 use Rattle.theory.specs.Stages.{Made, already, holeAt, holesTable, ruleShape, rulesTable, ruleRows, finalNodeRow, added, withNode}
-use Rattle.theory.proofs.Grows.{grown-longer, rules-grow}
-use Rattle.theory.proofs.Turns.{holes-first, holes-next, those-none, those-take, those-skip}
-use Rattle.theory.proofs.Fitting.{rule-fits}
-use Rattle.theory.proofs.Bound.{ruleRows-count}
+use Rattle.theory.proofs.Nodes.Grows.{grown-longer, rules-grow}
+use Rattle.theory.proofs.Nodes.Turns.{holes-first, holes-next, those-none, those-take, those-skip}
+use Rattle.theory.proofs.Nodes.Fitting.{rule-fits}
+use Rattle.theory.proofs.Counting.Bound.{ruleRows-count}
 use Rattle.elimination.specs.declared.maker.Got.{Got}
 use Rattle.elimination.specs.declared.rows.Rows.{Rows}
-use Rattle.elimination.specs.Inside.{GivesNode, GivesTable, GoesOn, TableOn, noRow, rowsIn, listOf, Tidy, childOf, rowShape}
+use Rattle.elimination.specs.Inside.{GivesNode, GivesTable, GoesOn, TableOn, noRow, rowsIn, listOf, childOf, rowShape}
 use Rattle.elimination.proofs.Makers.{gives-none}
 use Rattle.elimination.proofs.RowList.{list-none, list-more, list-count}
 

@@ -1,9 +1,9 @@
 -- What the private functions of a conversion promise one another. The public promises cite none of it.
 --
 -- Which row is which: a `Rule` is a row of the file, and `Row` is how an automaton's value has it. A `NodeRow` is a row of the list, a node and a target; it stands in a place of the list. A `ListRow` is a row of the list as it is reported.
-use Prim.Native.Nat.{ℕ, suc, _+_, _*_, _≤_, _<_}
+use Prim.Native.Nat.{ℕ, suc, _*_, _≤_, _<_}
 use mathlib.Core.Path.{_≡_}
-use mathlib.Core.Bool.{Bool, true, false, cond, not, _&&_}
+use mathlib.Core.Bool.{Bool, cond, not, _&&_}
 use lib.Dec.{eqb, ltb}
 use mathlib.Core.List.{List, map}
 use lib.ListN.{length, getD, take}
@@ -61,7 +61,7 @@ abbrev pub GoesOn : (Made → Type 0) → (Made → Made) → List ℕ → Got �
 GoesOn Suits step words last after r =
     (before : List ℕ) (made : Made) → GivesNode before made words last → (Ready before (length (made .table)) → Suits made) → GivesNode before (step made) after r
 
--- the same of the table alone
+-- the same of the table alone; what it goes on from must suit it in any case
 abbrev pub TableOn : (Table → Type 0) → (Table → Table) → List ℕ → Got → List ℕ → Got → Type 0
 TableOn Suits step words last after r = (before : List ℕ) (table : Table) → GivesTable before table words last → Suits table → GivesTable before (step table) after r
 
@@ -105,7 +105,7 @@ pub record GivesStage (before : List ℕ) (stage : Stage) (after : List ℕ) (r 
   pub over : (Ready before (length (stage .table)) → ⊥) → r .count ≡ noRoom
 
 -- a stage that a state may be taken out of: few rows, whose nodes the table has
-pub record Sorted (stage : Stage) : Type 0 where
+pub record Workable (stage : Stage) : Type 0 where
   pub few : length (stage .rows) ≤ listPlaces
   pub low : LowRows (stage .rows) (stage .table)
 
@@ -125,6 +125,7 @@ pub record StagesOn (Suits : Stage → Type 0) (step : Stage → Stage) (words :
 unfoldable pub childOf : ℕ → ℕ → ℕ → ℕ
 childOf place arity source = cond (ltb place arity) (suc source) 0
 
+-- the shape of a rule's node, by its row in a value and the arity of its symbol
 unfoldable pub rowShape : Row → ℕ → Shape
 rowShape row arity =
     symbolShape (labelOf (row .symbol) arity) (childOf 0 arity (getD (row .sources) 0 0)) (childOf 1 arity (getD (row .sources) 1 0)) (childOf 2 arity (getD (row .sources) 2 0))

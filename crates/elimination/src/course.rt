@@ -6,7 +6,7 @@ ghost use Rattle.automaton.specs.Answers.{heldBy};
 ghost use Rattle.automaton.specs.Handed.{Handed};
 ghost use Rattle.theory.specs.RowLists.{ascending};
 ghost use Rattle.theory.specs.Stages.{eliminatedStages, stageAfter, converted};
-ghost use Rattle.elimination.specs.Inside.{GivesNode, GivesStage, StagesOn, Sorted, Tidy};
+ghost use Rattle.elimination.specs.Inside.{GivesNode, GivesStage, StagesOn, Workable, Tidy};
 use crate::maker::Got;
 use crate::rows;
 use crate::rows::Staged;
@@ -18,7 +18,7 @@ use automaton::Automaton;
 fn take_first(words: &mut [u32], begun: Staged, k: u32) -> Staged
     requires { ⌜ Tidy (begun .list) ⌝ }
     requires { ⌜ k ≤ stateWidth ⌝ }
-    ensures { λ r. ⌜ StagesOn (λ stage. Sorted stage × (k < length (stage .table))) (eliminatedStages (ascending k)) (now (words .entry)) begun (now (words .exit)) r ⌝ }
+    ensures { λ r. ⌜ StagesOn (λ stage. Workable stage × (k < length (stage .table))) (eliminatedStages (ascending k)) (now (words .entry)) begun (now (words .exit)) r ⌝ }
 {
     let mut staged = begun;
     let mut q: u32 = 0;

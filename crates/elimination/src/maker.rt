@@ -6,6 +6,7 @@ ghost use Prim.Native.Nat.{_<_};
 ghost use lib.Dec.{eqb};
 ghost use lib.ListN.{length};
 ghost use Rattle.sets.specs.Members.{size, stateWidth};
+ghost use Rattle.expressions.specs.Nodes.{shapeOf};
 ghost use Rattle.expressions.specs.Words.{nodeIn};
 ghost use Rattle.expressions.specs.Soundness.{Fits};
 ghost use Rattle.theory.specs.Stages.{added, altMade, catMade, iterMade};
@@ -63,7 +64,7 @@ pub fn new_node(
     second: u32,
     third: u32,
 ) -> Got
-    ensures { λ r. ⌜ GoesOn (λ made. Fits (length (made .table)) (record { kind = kind; label = label; first = first; second = second; third = third })) (λ made. added (made .table) (record { kind = kind; label = label; first = first; second = second; third = third })) (now (words .entry)) last (now (words .exit)) r ⌝ }
+    ensures { λ r. ⌜ GoesOn (λ made. Fits (length (made .table)) (shapeOf kind label first second third)) (λ made. added (made .table) (shapeOf kind label first second third)) (now (words .entry)) last (now (words .exit)) r ⌝ }
 {
     let answer = expressions::make(
         words,

@@ -6,7 +6,7 @@ ghost use Rattle.sets.specs.Members.{stateWidth};
 ghost use Rattle.expressions.specs.Words.{nodeIn};
 ghost use Rattle.ground.specs.Lists.{those};
 ghost use Rattle.theory.specs.Stages.{holeAt, replacedMade, replacedRows, remainsNode, standInMade, eliminatedStage};
-ghost use Rattle.elimination.specs.Inside.{GoesOn, RowsOn, StagesOn, Tidy, Sorted, LowRows, rowsIn, stageOf, pickedBy, pickedMade, joinedRow, loopMade};
+ghost use Rattle.elimination.specs.Inside.{GoesOn, RowsOn, StagesOn, Tidy, Workable, LowRows, rowsIn, stageOf, pickedBy, pickedMade, joinedRow, loopMade};
 use crate::maker;
 use crate::maker::Got;
 use crate::rows;
@@ -125,7 +125,7 @@ fn replace_rows(words: &mut [u32], standin: Got, list: Rows, q: u32) -> Staged
 pub fn take_out(words: &mut [u32], staged: Staged, q: u32) -> Staged
     requires { ⌜ Tidy (staged .list) ⌝ }
     requires { ⌜ q < stateWidth ⌝ }
-    ensures { λ r. ⌜ StagesOn (λ stage. Sorted stage × (holeAt q < length (stage .table))) (eliminatedStage q) (now (words .entry)) staged (now (words .exit)) r ⌝ }
+    ensures { λ r. ⌜ StagesOn (λ stage. Workable stage × (holeAt q < length (stage .table))) (eliminatedStage q) (now (words .entry)) staged (now (words .exit)) r ⌝ }
 {
     let last = Got {
         count: staged.count,

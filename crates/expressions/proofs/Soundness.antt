@@ -1,21 +1,18 @@
 -- The laws of soundness: a table is sound node by node, each over those before it; a made node keeps it sound, and unfolds to the expression of its shape.
-use Prim.Native.Nat.{ℕ, suc, _+_, _<_}
+use Prim.Native.Nat.{ℕ, _+_, _<_}
 use native.Mathlib.Omega.{arith}
 use native.Mathlib.Decide.{decLt}
 use mathlib.Core.Path.{_≡_, refl, _∙_, ap, subst}
-use mathlib.Core.List.{List, [], _∷_, _++_}
+use mathlib.Core.List.{[], _∷_, _++_}
 use lib.ListN.{length, take, length-append, List·getD-append}
 use lib.Seq.{getD-append-seam, take-append-le, take-append-seam, length-take-le, getD-take}
 use Rattle.ground.specs.Lists.{All}
 use Rattle.expressions.specs.declared.Shape.{Shape}
 use Rattle.expressions.specs.declared.Node.{Node}
 use Rattle.expressions.specs.Nodes.{Table, noNode, nodeAt, children}
-use Rattle.expressions.specs.Words.{tableOf, putNode}
 use Rattle.expressions.specs.Unfolding.{built, exprAt}
-use Rattle.expressions.specs.Soundness.{Fits, opensOf, opensIn, completed, SoundNode, SoundNodes, Sound}
-use Rattle.expressions.specs.Making.{Room}
+use Rattle.expressions.specs.Soundness.{Fits, opensOf, opensIn, completed, SoundNode, SoundNodes}
 use Rattle.ground.proofs.Lists.{all-map, map-same}
-use Rattle.expressions.proofs.Words.{table-put, length-put, length-table}
 use Rattle.expressions.proofs.Unfolding.{expr-new, expr-at, expr-take, built-same}
 
 pub sound-none : SoundNodes []
@@ -84,16 +81,3 @@ module _ (table : Table) (sound : SoundNodes table) (i : ℕ) (h : i < length ta
       (all-map (children (nodeAt table i .shape)) (λ c l. expr-take table i c (omega arith) l) (fits-at .earlier))
 
 -- ---- on words
-
-pub sound-put : (words : List ℕ) (count answer : ℕ) (shape : Shape) → Sound words count answer → Fits count shape → Room words count
-    → Sound (putNode words count (completed (tableOf words count) shape)) (suc count) count
-sound-put words count answer shape s f room =
-    record {
-      some = omega arith;
-      few = room .few;
-      roomy = omega (arith, length-put words count (completed (tableOf words count) shape) (room .roomy), room .roomy);
-      within = omega arith;
-      kept =
-          rw (table-put words count (completed (tableOf words count) shape) (room .roomy))
-          (sound-made (tableOf words count) shape (s .kept) (rw (length-table words count) f));
-    }

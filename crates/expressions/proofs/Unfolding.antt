@@ -2,15 +2,15 @@
 use Prim.Native.Nat.{ℕ, suc, _+_, _<_, _≤_}
 use native.Mathlib.Omega.{arith}
 use mathlib.Core.Path.{_≡_, refl, sym, _∙_, ap}
-use mathlib.Core.List.{List, [], _∷_, _++_, map}
+use mathlib.Core.List.{List, [], _∷_, _++_}
 use lib.ListN.{length, getD, take, drop, length-append, List·getD-append, take-append-drop}
 use lib.Seq.{getD-at, length-take-le, split-at, append-snoc}
-use Rattle.meaning.specs.Expressions.{Expr, emptyᴱ, holeᴱ, symbolᴱ, altᴱ, catᴱ, iterᴱ}
+use Rattle.meaning.specs.Expressions.{Expr, emptyᴱ, holeᴱ, altᴱ, catᴱ, iterᴱ}
 use Rattle.ground.specs.Lists.{All}
 use Rattle.expressions.specs.declared.Shape.{Shape}
 use Rattle.expressions.specs.declared.Node.{Node}
-use Rattle.expressions.specs.Nodes.{Table, emptyShape, holeShape, symbolShape, altShape, catShape, iterShape, noNode, nodeAt, symbolOf, arityOf, childCount, children}
-use Rattle.expressions.specs.Unfolding.{exprsOf, builtOf, built, unfolded, exprAt}
+use Rattle.expressions.specs.Nodes.{Table, emptyShape, holeShape, altShape, catShape, iterShape, noNode, nodeAt, childCount, children}
+use Rattle.expressions.specs.Unfolding.{builtOf, built, unfolded, exprAt}
 use Rattle.ground.proofs.Lists.{map-same}
 
 pub unfolded-append : (earlier : List Expr) (table more : Table) → unfolded earlier (table ++ more) ≡ unfolded (unfolded earlier table) more
@@ -93,9 +93,3 @@ built-cat f q a b = refl
 pub built-iter : (f : ℕ → Expr) (q a : ℕ) → built f (iterShape q a) ≡ iterᴱ q (f a)
 unfolding built builtOf children childCount
 built-iter f q a = refl
-
--- a symbol's, by its label
-pub built-symbol : (f : ℕ → Expr) (label a b c : ℕ)
-    → built f (symbolShape label a b c) ≡ symbolᴱ (symbolOf label) (exprsOf (map f (take (arityOf label) (a ∷ b ∷ c ∷ []))))
-unfolding built builtOf children childCount
-built-symbol f label a b c = refl

@@ -33,9 +33,6 @@ front-words (a ∷ b ∷ c ∷ d ∷ []) h = absurd (omega arith)
 front-words (a ∷ b ∷ c ∷ d ∷ e ∷ []) h = absurd (omega arith)
 front-words (a ∷ b ∷ c ∷ d ∷ e ∷ f ∷ words) h = refl
 
-pub encode-decode : (words : List ℕ) → length words ≡ nodeWidth → encode (decode words) ≡ words
-encode-decode words h = front-words words (omega arith) ∙ take-all nodeWidth words (omega arith)
-
 -- ---- a node of the words
 
 -- node i is the six words from 6 * i

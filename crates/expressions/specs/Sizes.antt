@@ -19,9 +19,12 @@ abbrev mutual
   writtenSizes []ᴱ = 0
   writtenSizes (e ∷ᴱ es) = writtenSize e + writtenSizes es
 
--- a number held at the limit for sizes [9.2]
+-- the limit for sizes, and a number held at it [9.2]
+abbrev pub mostSize : ℕ
+mostSize = 4294967295
+
 abbrev pub held : ℕ → ℕ
-held n = min n 4294967295
+held n = min n mostSize
 
 -- the held size of an expression [9.1] [9.2]
 unfoldable pub heldSize : Expr → ℕ

@@ -1,6 +1,6 @@
 // Expressions: the node table, checked, measured and made.
 ghost use mathlib.Core.Path.{_≡_};
-ghost use Rattle.expressions.specs.Nodes.{childCount};
+ghost use Rattle.expressions.specs.Nodes.{childCount, shapeOf};
 ghost use Rattle.expressions.specs.Words.{nodeIn};
 ghost use Rattle.expressions.specs.Making.{Makes};
 ghost use Rattle.expressions.specs.Answers.{SoundAnswer, Measures};
@@ -100,7 +100,7 @@ pub fn is_sound(words: &[u32], count: usize, answer: usize) -> bool
     nodes::all_sound(words, count)
 }
 
-// The node of this kind, label and children, as the next node of the table. Its open set is derived from the children's. Refused, and nothing changed: 8 where the label or a child does not suit, then 6 where there is no room.
+// The node of this kind, label and children, as the next node of the table. Its open set is derived from the children's. Refused, and nothing changed: 8 where the kind, the label or a child does not suit, then 6 where there is no room.
 pub fn make(
     words: &mut [u32],
     count: usize,
@@ -110,7 +110,7 @@ pub fn make(
     second: u32,
     third: u32,
 ) -> Refusal
-    ensures { λ r. ⌜ Makes (now (words .entry)) count (record { kind = kind; label = label; first = first; second = second; third = third }) (now (words .exit)) r ⌝ }
+    ensures { λ r. ⌜ Makes (now (words .entry)) count (shapeOf kind label first second third) (now (words .exit)) r ⌝ }
 {
     let shape = Shape {
         kind,

@@ -15,6 +15,11 @@ use crate::ARITY_STEP;
 use crate::Shape;
 use crate::layout;
 
+// The limit at which a size is held, and the same as a sum is compared with it.
+const MOST_SIZE: u32 = 4294967295;
+
+const MOST_SUM: u64 = MOST_SIZE as u64;
+
 // The size of a child, or 0 where it is none of the n that are used.
 fn part(sizes: &[u32], place: u32, n: u32, child: u32) -> u64
     requires { ⌜ (place < n → child < length (now sizes)) ⌝ }
@@ -65,10 +70,10 @@ fn size_at(words: &[u32], sizes: &[u32], i: usize) -> u32
     ensures { λ r. ⌜ r ≡ held (sizeOver (λ c. getD (now (sizes .entry)) c 0) (readNode (now (words .entry)) i .shape)) ⌝ }
 {
     let total = size_over(sizes, layout::node_at(words, i).shape);
-    if total < 4294967295 {
+    if total < MOST_SUM {
         return total as u32;
     }
-    4294967295
+    MOST_SIZE
 }
 
 // The held size of every node.

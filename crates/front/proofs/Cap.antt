@@ -4,7 +4,7 @@ use mathlib.Core.Path.{_≡_, ap}
 use mathlib.Core.List.{List}
 use Prim.Native.Nat.{ℕ}
 use lib.ListN.{take}
-use Rattle.automaton.proofs.Cap.{verdict-cap}
+use Rattle.automaton.proofs.Files.Cap.{verdict-cap}
 use Rattle.front.specs.Text.{mostRead, textOf, printedText}
 
 -- what is printed for the bytes that are read is what is printed for all

@@ -7,7 +7,7 @@ use mathlib.Core.List.{List, _++_}
 use mathlib.Core.Logic.{inl, inr}
 use lib.ListN.{length, drop, replicate}
 use Rattle.automaton.specs.Held.{Held}
-use Rattle.automaton.proofs.Faults.{fault-number, fault-some}
+use Rattle.automaton.proofs.Files.Faults.{fault-number, fault-some}
 use Rattle.automaton.specs.Checks.{Verdict, holds, fault, verdict}
 use Rattle.expressions.specs.Nodes.{Table}
 use Rattle.expressions.specs.Words.{nodeWidth, tableOf}

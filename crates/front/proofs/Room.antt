@@ -6,11 +6,11 @@ use mathlib.Core.List.{List}
 use lib.ListN.{length, take, drop, length-append}
 use lib.Seq.{take-at}
 use Rattle.automaton.specs.Checks.{Verdict, holds, fault, verdict}
-use Rattle.automaton.proofs.Pair.{verdict-valid}
+use Rattle.automaton.proofs.Files.Pair.{verdict-valid}
 use Rattle.listing.proofs.Longest.{listing-most}
 use Rattle.theory.specs.Stages.{converted}
 use Rattle.elimination.specs.Answers.{wholeNodes}
-use Rattle.theory.proofs.Bound.{bound-file}
+use Rattle.theory.proofs.Counting.Bound.{bound-file}
 use Rattle.theory.proofs.Theorem.{wholly-ascending}
 use Rattle.front.specs.declared.Printing.{Printing}
 use Rattle.front.specs.Text.{convertedListing, printedText}

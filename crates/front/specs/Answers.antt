@@ -42,7 +42,7 @@ pub record Prints (file nodesBefore nodesAfter outBefore outAfter : List ℕ) (r
 
 -- ---- the room with which it is never short
 
--- the most nodes that a conversion makes [8.30]
+-- no conversion makes more nodes [8.30]
 abbrev pub mostMade : ℕ
 mostMade = 1393
 

@@ -7,7 +7,7 @@ use listing::LONGEST_LINE;
 
 mod text;
 
-// The most nodes that a conversion makes.
+// No conversion makes more nodes.
 const MOST_MADE: usize = 1393;
 
 // Words and bytes enough for any file: with so many, `printed` never answers 6.

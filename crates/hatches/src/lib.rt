@@ -1,4 +1,4 @@
-// Doors in C's calling convention to the functions on sets and to the helpers, as `doors` has them to the others; the three of `ground` that only
+// Doors in C's calling convention to the functions on sets and to the helpers, as `doors` and `bridges` have them to the others; the three of `ground` that only
 // widen a number have none.
 use sets::StateSet;
 ghost use Rattle.sets.specs.Promises.{IsEmpty, IsOne, IsOfWord, IsUnion, SaysMember, SaysPast, IsWithout, IsCount};

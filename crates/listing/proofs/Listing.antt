@@ -12,7 +12,7 @@ use borrow.Author.Tests.{lt-ltb}
 use Rattle.ground.specs.Decimal.{decimal}
 use Rattle.ground.specs.Writing.{Wrote}
 use Rattle.expressions.specs.declared.Shape.{Shape}
-use Rattle.expressions.specs.Nodes.{Kind, emptyᴷ, holeᴷ, symbolᴷ, altᴷ, catᴷ, iterᴷ, otherᴷ, kindOf, Table, childCount, places, children}
+use Rattle.expressions.specs.Nodes.{Kind, emptyᴷ, holeᴷ, symbolᴷ, altᴷ, catᴷ, iterᴷ, otherᴷ, kindOf, Table, childCount, children}
 use Rattle.expressions.specs.Words.{readNode, tableOf}
 use Rattle.expressions.specs.Soundness.{Sound}
 use Rattle.expressions.proofs.Words.{length-table, table-more, take-table}

@@ -78,7 +78,7 @@ answerLine answer = line (97 ∷ 110 ∷ 115 ∷ 119 ∷ 101 ∷ 114 ∷ []) (de
 unfoldable pub listing : (Shape → List ℕ) → Table → ℕ → List ℕ
 listing labelBytes table answer = nodeLines labelBytes 0 table ++ answerLine answer
 
--- the most bytes that the line of a node of a sound table has, and that the last line has: with room for so many a listing is never refused [9.12]
+-- no line of a node of a sound table has more bytes, and the last line has no more: with room for so many, a listing is never refused 6 [9.5, 9.6, 9.12]
 abbrev pub longestLine : ℕ
 longestLine = 30
 

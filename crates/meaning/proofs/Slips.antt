@@ -121,10 +121,6 @@ not-replaced-again t = (forth, λ e. rw e back)
       under (both (at (here (denotes-pair (holeᴱ 0) (leafᴱ 1) (hole 0) (leaf 1) refl (denotes-leaf 1)))) (both (under none) none)),
     )
 
--- so the tree in which it was replaced again is not there
-pub replaced-again-not-denoted : Denotes (catᴱ 0 (pairᴱ (holeᴱ 0) (leafᴱ 0)) (pairᴱ (holeᴱ 0) (leafᴱ 1))) (pair (pair (pair (hole 0) (leaf 1)) (leaf 1)) (leaf 0)) → ⊥
-replaced-again-not-denoted x = let e = not-replaced-again _ .0 x in let z : _≡_ {A = ℕ} 0 1 = cc in omega arith
-
 -- ---- no regrouping over two letters [11.5]: (f(q,p) over q with p) over p with c has f(c,c); f(q,p) over q with (p over p with c) has not
 
 1-not-0 : _≡_ {A = ℕ} 1 0 → ⊥

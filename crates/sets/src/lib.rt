@@ -1,6 +1,11 @@
 // Sets of states: sixteen bits, bit i for state i. Any number is taken as a state; 16 and more is in no set.
 ghost use Rattle.sets.specs.Promises.{IsEmpty, IsOne, IsOfWord, IsUnion, SaysMember, SaysPast, IsWithout, IsCount};
 
+// The most states that a set can have, and the bits of a set.
+pub const MOST_STATES: u8 = 16;
+
+const WIDTH: u32 = MOST_STATES as u32;
+
 #[repr(C)]
 pub struct StateSet(pub u16);
 
@@ -18,7 +23,7 @@ impl StateSet {
     pub fn one(state: u32) -> Self
         ensures { λ r. ⌜ IsOne state r ⌝ }
     {
-        if state < 16 {
+        if state < WIDTH {
             StateSet(1 << state)
         } else {
             StateSet::EMPTY
@@ -43,7 +48,7 @@ impl StateSet {
     pub fn has(self, state: u32) -> bool
         ensures { λ r. ⌜ SaysMember self state r ⌝ }
     {
-        if state < 16 {
+        if state < WIDTH {
             (self.0 >> state) % 2 == 1
         } else {
             false
@@ -54,7 +59,7 @@ impl StateSet {
     pub fn past(self, count: u8) -> bool
         ensures { λ r. ⌜ SaysPast self count r ⌝ }
     {
-        if 16 <= count {
+        if MOST_STATES <= count {
             return false;
         }
         self.0 >> count != 0
@@ -65,7 +70,7 @@ impl StateSet {
         ensures { λ r. ⌜ IsWithout self state r ⌝ }
     {
         let bits = self.0;
-        if state < 16 {
+        if state < WIDTH {
             StateSet(bits ^ (bits & (1 << state)))
         } else {
             StateSet(bits)

@@ -13,8 +13,8 @@ use Rattle.theory.specs.Stages.{start, eliminatedStages, stageAfter, joi
 use Rattle.theory.specs.Theorem.{PartlyConverted, WhollyConverted}
 use Rattle.ground.proofs.Lists.{of-all}
 use Rattle.theory.proofs.Lists.{Distinct, in-ascending, all-ascending, distinct-ascending}
-use Rattle.theory.proofs.Converted.{stage-accepts, stage-not-open, stage-aimed, stage-low, stage-no-more, stage-sound, joined-mirrors, joined-denotes}
-use Rattle.theory.proofs.Bound.{stage-few, joined-few}
+use Rattle.theory.proofs.Nodes.Converted.{stage-accepts, stage-not-open, stage-aimed, stage-low, stage-no-more, stage-sound, joined-mirrors, joined-denotes}
+use Rattle.theory.proofs.Counting.Bound.{stage-few, joined-few}
 
 -- ---- any distinct states, in any order
 

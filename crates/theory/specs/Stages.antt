@@ -193,7 +193,7 @@ converted held = joinStage (stageAfter (held .states) held)
 unfoldable pub waitsFor : Table → NodeRow → ℕ
 waitsFor table row = size stateWidth (nodeAt table (row .node) .opens)
 
--- the most nodes that a conversion makes, by the numbers of states, of rows and of final states [8.29]
+-- a conversion makes no more nodes than this, by the numbers of states, of rows and of final states [8.29]
 unfoldable pub nodeBound : (n t f : ℕ) → ℕ
 nodeBound n t f = 1 + n + t + n * (t + f + 1) + f
 

@@ -15,7 +15,7 @@ use Rattle.trees.specs.Words.{arityIn}
 use Rattle.ground.specs.Lists.{anyOf, anyBelow}
 use Rattle.trees.specs.Piles.{eachIn, gives, reachedFrom}
 use Rattle.trees.specs.Columns.{firstAt, secondAt, thirdAt, targetAt, leafAt, Column, needAt, need, Tabled, within, fires, Scanned}
-use Rattle.automaton.proofs.Files.{all-get}
+use Rattle.automaton.proofs.Files.FileOf.{all-get}
 use Rattle.ground.proofs.Truth.{and-parts, and-both, same-test, eqb-turned}
 use Rattle.ground.proofs.Lists.{any-pick, any-mem, any-same, below-pick, below-some, of-all, member-at, place-of}
 use Rattle.trees.proofs.Reaching.{Aimed, valid-aimed}

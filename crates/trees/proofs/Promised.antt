@@ -5,8 +5,8 @@ use mathlib.Core.List.{List}
 use Rattle.automaton.specs.Held.{Held}
 use Rattle.automaton.specs.Refusals.{refusal, faultRefusal}
 use Rattle.automaton.specs.Checks.{Verdict, verdict, holds, fault}
-use Rattle.automaton.proofs.Faults.{one-held, never-both}
-use Rattle.automaton.proofs.Pair.{verdict-valid}
+use Rattle.automaton.proofs.Files.Faults.{one-held, never-both}
+use Rattle.automaton.proofs.Files.Pair.{verdict-valid}
 use Rattle.trees.specs.declared.ReachedStates.{ReachedStates}
 use Rattle.trees.specs.declared.ProductiveStates.{ProductiveStates}
 use Rattle.meaning.specs.Trees.{Tree}

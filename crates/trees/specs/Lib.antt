@@ -3,5 +3,5 @@ pub mod Words
 pub mod Runs
 pub mod Promises
 -- for the contracts of private functions
-pub mod Piles
 pub mod Columns
+pub mod Piles

@@ -57,7 +57,7 @@ pileOf held (f ∷ words) = put held f (pileOf held words)
 unfoldable pub runTo : ℕ → ℕ → ReachedStates
 runTo finals x = record { refusal = noRefusal; states = record { 0 = x }; yes = meets x finals }
 
--- so many trees are left, the last of which reaches the set x: the run of one tree, or none
+-- the answer where so many trees are left, the last of which reaches the set x: the run of one tree, or refusal 7
 unfoldable pub treesAnswer : (finals trees x : ℕ) → ReachedStates
 treesAnswer finals trees x = cond (eqb trees 1) (runTo finals x) (noRun (refusal 7))
 
@@ -68,7 +68,7 @@ pileAnswer held (pile []) = noRun (refusal 7)
 pileAnswer held (pile (x ∷ [])) = runTo (held .finals) x
 pileAnswer held (pile (x ∷ (y ∷ sets))) = noRun (refusal 7)
 
--- the words leave so many trees, the last of which reaches the set x, in every automaton that declares these arities and whose rows the table has
+-- the answer for the words is that for so many trees, the last of which reaches the set x, in every automaton that declares these arities and whose rows the table has
 abbrev pub Climbed : (arities table words : List ℕ) (trees x : ℕ) → Type 0
 Climbed arities table words trees x =
     (held : Held) → Valid held → held .arities ≡ arities → Tabled (held .rules) table → pileAnswer held (pileOf held words) ≡ treesAnswer (held .finals) trees x

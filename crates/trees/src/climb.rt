@@ -21,8 +21,8 @@ ghost use Rattle.trees.specs.Piles.{pileOf, treesAnswer, pileAnswer, Cli
 // The places of the store for a small tree.
 const SMALL: usize = 64;
 
-// The places of the store for any tree: a pile never holds more sets than the tree has symbols.
-const LARGE: usize = 4096;
+// The most symbols that a tree may have, and the places of the store for any tree: a pile never holds more sets than the tree has symbols.
+const MOST_WORDS: usize = 4096;
 
 // A refusal: the set is empty.
 pub fn refused(refusal: Refusal) -> ReachedStates
@@ -67,7 +67,7 @@ fn over<'a>(t: &'a [u16], f: u16, arity: usize, pile: &'a [u16], base: usize) ->
     scan(t, true, f, first, second, third)
 }
 
-// How many trees the words are, of symbols with these arities; their sets stand on the pile, the first tree's on top. None where a symbol is unknown or finds too few subtrees.
+// How many trees the words are, of symbols with these arities; the last tree's set stands lowest on the pile. None where a symbol is unknown or finds too few subtrees.
 fn climb(
     symbols: u8,
     arities: [u8; SYMBOL_PLACES],
@@ -122,8 +122,8 @@ pub fn answer(a: Automaton, words: &[u16]) -> ReachedStates
         let mut pile = [0u16; SMALL];
         return in_store(a, words, &mut pile);
     }
-    if count <= LARGE {
-        let mut pile = [0u16; LARGE];
+    if count <= MOST_WORDS {
+        let mut pile = [0u16; MOST_WORDS];
         return in_store(a, words, &mut pile);
     }
     refused(Refusal::NO_TREE)

@@ -1,1 +1,2 @@
+-- for the contracts of private functions
 pub mod Lent

@@ -2,6 +2,7 @@
 ghost use Rattle.worked.specs.Lent.{Words};
 use crate::say;
 use crate::texts;
+use elimination::LIST_PLACES;
 use elimination::ListRow;
 
 // The written-out size of a table's answer.
@@ -29,9 +30,9 @@ pub fn wholly(file: &[u8], room: usize)
     say::left(words, room)
 }
 
-fn rows(list: [ListRow; 80], count: usize) {
+fn rows(list: [ListRow; LIST_PLACES], count: usize) {
     let mut i: usize = 0;
-    while i < 80 {
+    while i < LIST_PLACES {
         if i < count {
             let r = list[i];
             texts::write(

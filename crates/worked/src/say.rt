@@ -12,12 +12,14 @@ pub fn number(n: usize) {
     io::print_decimal(STDOUT_FILENO, n as u64);
 }
 
+const STATES: u32 = sets::MOST_STATES as u32;
+
 // The states of a set, as {0 1}.
 pub fn states(bits: u16) {
     let set = StateSet(bits);
     let mut before = b'{';
     let mut q: u32 = 0;
-    while q < 16 {
+    while q < STATES {
         if set.has(q) {
             byte(before);
             number(q as usize);

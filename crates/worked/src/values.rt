@@ -2,13 +2,15 @@
 ghost use Rattle.worked.specs.Lent.{Bytes};
 use crate::say;
 use crate::texts;
+use automaton::ROW_PLACES;
 use automaton::Row;
+use automaton::SYMBOL_PLACES;
 
 // A row, by the text for its symbol's arity. The drafts' symbols take two sources at most.
-fn row(row: Row, arities: [u8; 32]) {
+fn row(row: Row, arities: [u8; SYMBOL_PLACES]) {
     let symbol = row.symbol as usize;
     texts::write(
-        texts::ROW + (arities[symbol % 32] % 3) as usize,
+        texts::ROW + (arities[symbol % SYMBOL_PLACES] % 3) as usize,
         0,
         symbol,
         row.sources[0] as usize,
@@ -19,9 +21,9 @@ fn row(row: Row, arities: [u8; 32]) {
 }
 
 // The first so many rows, and the end of the line.
-fn rows(list: [Row; 64], count: usize, arities: [u8; 32]) {
+fn rows(list: [Row; ROW_PLACES], count: usize, arities: [u8; SYMBOL_PLACES]) {
     let mut i: usize = 0;
-    while i < 64 {
+    while i < ROW_PLACES {
         if i < count {
             row(list[i], arities);
         }
@@ -31,7 +33,7 @@ fn rows(list: [Row; 64], count: usize, arities: [u8; 32]) {
 }
 
 // The arities, by the text for as many, and the number of rows. The drafts have three symbols at most.
-fn arities(of: [u8; 32], symbols: u8, rows: usize) {
+fn arities(of: [u8; SYMBOL_PLACES], symbols: u8, rows: usize) {
     texts::write(
         texts::ARITIES + symbols as usize,
         0,

@@ -17,11 +17,11 @@ use Rattle.writer.specs.Inside.{RowSized, RowsFit}
 use Rattle.automaton.specs.declared.Row.{Row}
 use Rattle.ground.proofs.Deciding.{decides-yes, decides-no}
 use Rattle.ground.proofs.Places.{firsts-take}
-use Rattle.automaton.proofs.Files.{all-get}
-use Rattle.automaton.proofs.Records.{record-length}
-use Rattle.automaton.proofs.RowLoop.{map-snoc}
-use Rattle.automaton.proofs.Inverse.{below-all, all-below}
-use Rattle.automaton.proofs.Sources.{below-snoc, below-fails}
+use Rattle.automaton.proofs.Files.FileOf.{all-get}
+use Rattle.automaton.proofs.Files.Records.{record-length}
+use Rattle.automaton.proofs.Finding.RowLoop.{map-snoc}
+use Rattle.automaton.proofs.Files.Inverse.{below-all, all-below}
+use Rattle.automaton.proofs.Finding.Sources.{below-snoc, below-fails}
 use Rattle.writer.proofs.Stores.{take-next, each-snoc}
 
 -- ---- each of the first elements

@@ -1,5 +1,5 @@
 -- The laws of the pair over the promises of `read` and `write`: reading what was written gives the same automaton with unused places 0; a file that reads and is written back is the same bytes; and each promise has one outcome.
-use Prim.Native.Nat.{ℕ, _+_, _-_, _≤_}
+use Prim.Native.Nat.{ℕ, _+_, _≤_}
 use mathlib.Core.Path.{_≡_, sym, ap, _∙_}
 use mathlib.Core.List.{List, _++_}
 use native.Mathlib.Nat.{lt-of-not-le}
@@ -14,9 +14,9 @@ use Rattle.automaton.specs.Answers.{placed, readingOf, readAnswer, heldBy}
 use Rattle.writer.specs.Answers.{writing, Written}
 use Rattle.automaton.specs.declared.Automaton.{Automaton}
 use Rattle.writer.specs.declared.Writing.{Writing}
-use Rattle.automaton.proofs.Records.{Bytes}
-use Rattle.automaton.proofs.Pair.{verdict-valid, verdict-file}
-use Rattle.automaton.proofs.Files.{file-verdict}
+use Rattle.automaton.proofs.Files.Records.{Bytes}
+use Rattle.automaton.proofs.Files.Pair.{verdict-valid, verdict-file}
+use Rattle.automaton.proofs.Files.FileOf.{file-verdict}
 use Rattle.automaton.proofs.Values.{dec-valid, held-placed}
 use Rattle.ground.proofs.Deciding.{alike}
 use Rattle.automaton.specs.Refusals.{noRefusal}

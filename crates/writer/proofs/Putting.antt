@@ -11,7 +11,7 @@ use Rattle.automaton.specs.File.{rowRecord, each}
 use Rattle.automaton.specs.Answers.{ruleHeld}
 use Rattle.writer.specs.Inside.{RowThere, RowsThere}
 use Rattle.automaton.specs.declared.Row.{Row}
-use Rattle.automaton.proofs.RowLoop.{map-snoc}
+use Rattle.automaton.proofs.Finding.RowLoop.{map-snoc}
 use Rattle.writer.proofs.Stores.{sets-next, each-snoc, take-next}
 use Rattle.writer.proofs.Fitting.{all-mapped, all-at, symbol-less}
 

@@ -9,7 +9,7 @@ use lib.ListN.{length, getD, take, set}
 use lib.Seq.{sets, take-suc, length-take-le}
 use Rattle.automaton.specs.File.{twoBytes, fileRecord, symbolRecord, rowRecord, each}
 use Rattle.ground.proofs.Bytes.{sets-append}
-use Rattle.automaton.proofs.Files.{symbols-length}
+use Rattle.automaton.proofs.Files.FileOf.{symbols-length}
 
 module _ {A : Type 0} where
   pub sets-next : (l : List A) (i j : ℕ) (a b : List A) → j ≡ i + length a → sets (sets l i a) j b ≡ sets l i (a ++ b)

@@ -1,5 +1,5 @@
 -- The writer's parts together: the length of a value's file, its bytes, and what `write` promises.
-use Prim.Native.Nat.{ℕ, _+_, _-_, _*_, _^_, _≤_, _<_}
+use Prim.Native.Nat.{ℕ, _+_, _*_, _^_, _≤_, _<_}
 use mathlib.Core.Bool.{true, false}
 use mathlib.Core.Path.{_≡_, refl, sym, ap, _∙_}
 use mathlib.Core.List.{List, _++_, map}
@@ -18,7 +18,7 @@ use Rattle.writer.specs.Inside.{RowsFit, RowsThere, FileSized}
 use Rattle.automaton.specs.declared.Automaton.{Automaton}
 use Rattle.writer.specs.declared.fits.Fitted.{Fitted}
 use Rattle.ground.proofs.Places.{firsts-take}
-use Rattle.automaton.proofs.Files.{symbols-length, head-length, file-parts}
+use Rattle.automaton.proofs.Files.FileOf.{symbols-length, head-length, file-parts}
 use Rattle.writer.proofs.Stores.{sets-next}
 use Rattle.automaton.specs.Refusals.{refusal, noRefusal}
 

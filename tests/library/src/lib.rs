@@ -1,8 +1,8 @@
 //! The doors of the proved library, declared for Rust: a type for each struct that crosses one, laid out as C lays it out, and a safe
 //! function for each door.
 //!
-//! This crate stands alone. It knows nothing of the independent program, and no other crate declares a door: the names that the archive
-//! exports stand once, below in `doors`, and the archive's own name stands in `build.rs`.
+//! This crate stands alone. It knows nothing of the independent program, and no other crate declares a door: the names that the archives
+//! export stand once, below in `doors`, and the archives' own names stand in `build.rs`.
 
 /// 0 is done.
 #[repr(C)]
@@ -149,7 +149,7 @@ const _: () = {
     assert!(size_of::<Printing>() == 16);
 };
 
-/// The doors as the archive exports them. A slice crosses as a pointer and a number of cells.
+/// The doors as the archives export them. A slice crosses as a pointer and a number of cells.
 mod doors {
     use crate::*;
 

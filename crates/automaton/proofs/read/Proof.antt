@@ -1,6 +1,6 @@
 use mathlib.Core.Path.{_∙_}
 use denote.Ref.{now}
-use Rattle.automaton.proofs.Whole.{head-refused, symbols-refused, rows-asked, rows-refused, all-read}
+use Rattle.automaton.proofs.Finding.Whole.{head-refused, symbols-refused, rows-asked, rows-refused, all-read}
 use borrow.Author.Needs.{needs}
 use Rattle.automaton.proofs.read.Statement.{statement}
 use Rattle.automaton.proofs.read.Tie as tie

@@ -2,7 +2,7 @@ use mathlib.Core.Path.{sym, _∙_}
 use denote.Ref.{now}
 use borrow.Author.Tests.{not-true, not-false}
 use Rattle.automaton.specs.Inside.{allowedBy}
-use Rattle.automaton.proofs.Frames.{frame-short, frame-kind, frame-length, frame-cut, frame-whole}
+use Rattle.automaton.proofs.Finding.Frames.{frame-short, frame-kind, frame-length, frame-cut, frame-whole}
 use borrow.Author.Needs.{needs}
 use Rattle.automaton.proofs.reader.frame_at.Statement.{statement}
 use Rattle.automaton.proofs.reader.frame_at.Tie as tie

@@ -1,7 +1,7 @@
 use mathlib.Core.Path.{sym, _∙_}
 use denote.Ref.{now}
 use native.Mathlib.Omega.{arith}
-use Rattle.automaton.proofs.Heads.{head-fault, head-there, head-few, head-many, head-past, head-read}
+use Rattle.automaton.proofs.Finding.Heads.{head-fault, head-there, head-few, head-many, head-past, head-read}
 use borrow.Author.Needs.{needs}
 use Rattle.automaton.proofs.reader.head_of.Statement.{statement}
 use Rattle.automaton.proofs.reader.head_of.Tie as tie

@@ -1,4 +1,4 @@
-use Rattle.automaton.proofs.Frames.{allowed-first, allowed-symbol, allowed-row, allowed-end, allowed-none}
+use Rattle.automaton.proofs.Finding.Frames.{allowed-first, allowed-symbol, allowed-row, allowed-end, allowed-none}
 use Rattle.automaton.proofs.reader.kind_allowed.Statement.{statement}
 use Rattle.automaton.proofs.reader.kind_allowed.Tie as tie
 use Rattle.automaton.proofs.reader.kind_allowed.Reads as reads

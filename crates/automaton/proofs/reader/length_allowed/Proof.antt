@@ -1,5 +1,5 @@
 use borrow.Author.Tests.{lt-leb, le-leb}
-use Rattle.automaton.proofs.Frames.{length-head, length-symbol, length-row, length-end, length-none}
+use Rattle.automaton.proofs.Finding.Frames.{length-head, length-symbol, length-row, length-end, length-none}
 use Rattle.automaton.proofs.reader.length_allowed.Statement.{statement}
 use Rattle.automaton.proofs.reader.length_allowed.Tie as tie
 use Rattle.automaton.proofs.reader.length_allowed.Reads as reads

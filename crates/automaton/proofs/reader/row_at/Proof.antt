@@ -1,6 +1,6 @@
 use denote.Ref.{now}
 use borrow.Author.Tests.{not-true, not-false}
-use Rattle.automaton.proofs.Rows.{row-unknown, row-unsuited, row-aimless, row-sourceless, row-good}
+use Rattle.automaton.proofs.Finding.Rows.{row-unknown, row-unsuited, row-aimless, row-sourceless, row-good}
 use borrow.Author.Needs.{needs}
 use Rattle.automaton.proofs.reader.row_at.Statement.{statement}
 use Rattle.automaton.proofs.reader.row_at.Tie as tie

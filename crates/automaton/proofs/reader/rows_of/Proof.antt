@@ -1,7 +1,7 @@
 use Prim.Native.Nat.{_-_}
 use lib.ListN.{length}
 use native.Mathlib.Omega.{arith}
-use Rattle.automaton.proofs.RowLoop.{RowsSoFar, rows-start, rows-fault, rows-ended, rows-after, rows-many, row-two, row-five, row-there, rows-wrong, rows-next}
+use Rattle.automaton.proofs.Finding.RowLoop.{RowsSoFar, rows-start, rows-fault, rows-ended, rows-after, rows-many, row-two, row-five, row-there, rows-wrong, rows-next}
 use borrow.Author.Needs.{needs}
 use Rattle.automaton.proofs.reader.rows_of.Statement.{statement}
 use Rattle.automaton.proofs.reader.rows_of.Tie as tie

@@ -1,5 +1,5 @@
 use native.Mathlib.Omega.{arith}
-use Rattle.automaton.proofs.Sources.{SourcesSoFar, sources-start, sources-bad, sources-next, sources-done}
+use Rattle.automaton.proofs.Finding.Sources.{SourcesSoFar, sources-start, sources-bad, sources-next, sources-done}
 use Prim.Native.Nat.{_-_}
 use Rattle.automaton.proofs.reader.sources_at.Statement.{statement}
 use Rattle.automaton.proofs.reader.sources_at.Tie as tie

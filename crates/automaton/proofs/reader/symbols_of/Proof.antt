@@ -1,7 +1,7 @@
 use Prim.Native.Nat.{_-_}
 use lib.ListN.{length}
 use native.Mathlib.Omega.{arith}
-use Rattle.automaton.proofs.Symbols.{SymbolsSoFar, symbols-start, symbols-fault, symbols-done, symbols-there, symbols-many, symbols-wide, symbols-next}
+use Rattle.automaton.proofs.Finding.Symbols.{SymbolsSoFar, symbols-start, symbols-fault, symbols-done, symbols-there, symbols-many, symbols-wide, symbols-next}
 use borrow.Author.Needs.{needs}
 use Rattle.automaton.proofs.reader.symbols_of.Statement.{statement}
 use Rattle.automaton.proofs.reader.symbols_of.Tie as tie

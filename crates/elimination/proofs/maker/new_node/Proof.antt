@@ -1,14 +1,9 @@
 use borrow.Author.Needs.{needs}
-use Prim.Native.Nat.{ℕ}
 use native.Mathlib.Omega.{arith}
-use Rattle.expressions.specs.declared.Shape.{Shape}
+use Rattle.expressions.specs.Nodes.{shapeOf}
 use Rattle.elimination.proofs.Makers.{new-few, new-made, new-none}
 use Rattle.elimination.proofs.maker.new_node.Statement.{statement}
 use Rattle.elimination.proofs.maker.new_node.Tie as tie
-
--- the shape of what is given
-abbrev given : (kind label first second third : ℕ) → Shape
-given kind label first second third = record { kind = kind; label = label; first = first; second = second; third = third }
 
 cast-make : tie.Need-cast-make
 cast-make c = search needs
@@ -20,7 +15,7 @@ add-t13 : tie.Need-add-t13
 add-t13 c =
     let make = c .before .before .before .before .before .make in
     let a = c .before .before .before .before .before .before .before .before .before .args in
-    omega (arith, new-few (a .words .now) (a .last) (given (a .kind) (a .label) (a .first) (a .second) (a .third)) (make .last .0) (make .result) (make .ensures) (c .before .if1 .taken))
+    omega (arith, new-few (a .words .now) (a .last) (shapeOf (a .kind) (a .label) (a .first) (a .second) (a .third)) (make .last .0) (make .result) (make .ensures) (c .before .if1 .taken))
 
 same-length : tie.Need-same-length
 same-length c = search needs
@@ -29,7 +24,7 @@ returns : tie.Need-returns
 returns c =
     let make = c .before .before .before .before .before .make in
     let a = c .before .before .before .before .before .before .before .before .before .args in
-    new-made (a .words .now) (a .last) (given (a .kind) (a .label) (a .first) (a .second) (a .third)) (make .last .0) (make .result) (make .ensures) (c .before .if1 .taken)
+    new-made (a .words .now) (a .last) (shapeOf (a .kind) (a .label) (a .first) (a .second) (a .third)) (make .last .0) (make .result) (make .ensures) (c .before .if1 .taken)
 
 same-length-2 : tie.Need-same-length-2
 same-length-2 c = search needs
@@ -38,7 +33,7 @@ returns-2 : tie.Need-returns-2
 returns-2 c =
     let make = c .before .before .before .before .make in
     let a = c .before .before .before .before .before .before .before .before .args in
-    new-none (a .words .now) (a .last) (given (a .kind) (a .label) (a .first) (a .second) (a .third)) (make .last .0) (make .result) (make .ensures) (c .if1 .left)
+    new-none (a .words .now) (a .last) (shapeOf (a .kind) (a .label) (a .first) (a .second) (a .third)) (make .last .0) (make .result) (make .ensures) (c .if1 .left)
 
 pub new-node-spec : {M : Type 1} → statement M
 new-node-spec = tie.close (tie.spec cast-make make-requires add-t13 same-length returns same-length-2 returns-2)

@@ -1,6 +1,6 @@
 use Prim.Native.Nat.{_-_}
 use native.Mathlib.Omega.{arith}
-use Rattle.theory.proofs.OnExpressions.{looping}
+use Rattle.theory.proofs.Expressions.OnExpressions.{looping}
 use Rattle.elimination.proofs.Joining.{JoinLoop, loop-end, loop-next, loop-start}
 use Rattle.elimination.proofs.step.join_rows.Statement.{statement}
 use Rattle.elimination.proofs.step.join_rows.Tie as tie

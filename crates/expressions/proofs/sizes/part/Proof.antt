@@ -1,6 +1,5 @@
 -- `sizes::part` meets its contract.
 use native.Mathlib.Omega.{arith}
-use mathlib.Core.Path.{refl}
 use borrow.Author.Tests.{lt-ltb, le-ltb}
 use Rattle.expressions.proofs.sizes.part.Statement.{statement}
 use Rattle.expressions.proofs.sizes.part.Tie as tie

@@ -1,0 +1,3 @@
+-- How many nodes a conversion makes.
+pub mod Room
+pub mod Bound
