@@ -10,8 +10,10 @@ use crate::SYMBOL_PLACES;
 use crate::UNUSED;
 use sets::StateSet;
 ghost use mathlib.Core.Path.{_≡_};
+ghost use mathlib.Core.Bool.{cond};
 ghost use mathlib.Core.List.{List, []};
 ghost use Prim.Native.Nat.{ℕ, _+_, _≤_, _<_};
+ghost use lib.Dec.{eqb};
 ghost use lib.ListN.{length, take, drop};
 ghost use Rattle.automaton.specs.Held.{mostSymbols, mostArity};
 ghost use Rattle.automaton.specs.Checks.{numberAt, lengthAllowed};
@@ -150,6 +152,17 @@ pub struct Symbols {
     pub arities: [u8; SYMBOL_PLACES],
 }
 
+fn symbols_to(fault: u8, at: usize, count: u8, arities: [u8; SYMBOL_PLACES]) -> Symbols
+    ensures { λ r. ⌜ r ≡ record { fault = fault; at = at; count = count; arities = arities } ⌝ }
+{
+    Symbols {
+        fault,
+        at,
+        count,
+        arities,
+    }
+}
+
 // The records from the second on while their kind is 2.
 pub fn symbols_of(file: &[u8]) -> Symbols
     requires { ⌜ 7 ≤ length (now file) ⌝ }
@@ -162,37 +175,17 @@ pub fn symbols_of(file: &[u8]) -> Symbols
         let frame = frame_at(file, at, false, true, count != 0);
         let fault = frame.fault;
         if fault != 0 {
-            return Symbols {
-                fault,
-                at,
-                count,
-                arities,
-            };
+            return symbols_to(fault, at, count, arities);
         }
         if frame.kind != 2 {
-            return Symbols {
-                fault: 0,
-                at,
-                count,
-                arities,
-            };
+            return symbols_to(0, at, count, arities);
         }
         let arity = file[at + 4];
         if MOST_SYMBOLS <= count {
-            return Symbols {
-                fault: 4,
-                at,
-                count,
-                arities,
-            };
+            return symbols_to(4, at, count, arities);
         }
         if MOST_ARITY < arity {
-            return Symbols {
-                fault: 4,
-                at,
-                count,
-                arities,
-            };
+            return symbols_to(4, at, count, arities);
         }
         arities[count as usize] = arity;
         count += 1;
@@ -290,6 +283,16 @@ pub struct Rules {
     pub rows: [Row; ROW_PLACES],
 }
 
+// The number for an end record, by how many bytes there are from its start on.
+fn end_fault(left: usize) -> u8
+    ensures { λ r. ⌜ r ≡ cond (eqb left 4) 0 5 ⌝ }
+{
+    if left == 4 {
+        return 0;
+    }
+    5
+}
+
 // The kind 3 records and the end record.
 pub fn rows_of(
     file: &[u8],
@@ -311,11 +314,7 @@ pub fn rows_of(
             return Rules { fault, count, rows };
         }
         if frame.kind == 9 {
-            if at + 4 != file.len() {
-                let fault: u8 = 5;
-                return Rules { fault, count, rows };
-            }
-            let fault: u8 = 0;
+            let fault = end_fault(file.len() - at);
             return Rules { fault, count, rows };
         }
         if MOST_ROWS <= count {

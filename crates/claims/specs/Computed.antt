@@ -21,7 +21,7 @@ use Rattle.expressions.specs.Unfolding.{exprAt}
 use Rattle.expressions.specs.Soundness.{catOpens, opensOf}
 use Rattle.expressions.specs.Sizes.{heldSize}
 use Rattle.expressions.specs.Nodes.{shapeOf, noNode, holeShape, symbolShape, altShape, iterShape}
-use Rattle.ground.specs.Decimal.{decimal}
+use Rattle.buffers.specs.Decimal.{decimal}
 use Rattle.listing.specs.Listing.{plainLabel, nodeLine}
 use Rattle.expressions.specs.Making.{Makes}
 use Rattle.expressions.specs.Answers.{SoundAnswer}

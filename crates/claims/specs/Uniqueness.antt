@@ -4,9 +4,10 @@ use mathlib.Core.Path.{_≡_}
 use mathlib.Core.List.{List}
 use Rattle.sets.specs.declared.StateSet.{StateSet}
 use Rattle.sets.specs.Promises.{IsEmpty, IsOne, IsOfWord, IsUnion, SaysMember, SaysPast, IsWithout, IsCount}
-use Rattle.ground.specs.Decimal.{decimal}
-use Rattle.ground.specs.Writing.{Puts}
-use Rattle.ground.specs.Promises.{IsIndex, IsWidened, CountsDigits, Clears}
+use Rattle.buffers.specs.Decimal.{decimal}
+use Rattle.buffers.specs.Writing.{Puts}
+use Rattle.ground.specs.Promises.{IsIndex, IsWidened}
+use Rattle.buffers.specs.Promises.{CountsDigits, Clears}
 use Rattle.automaton.specs.declared.Automaton.{Automaton}
 use Rattle.automaton.specs.Answers.{readAnswer}
 use Rattle.writer.specs.Answers.{Written}

@@ -2,7 +2,7 @@
 ghost use mathlib.Core.Path.{_≡_};
 ghost use lib.ListN.{replicate};
 ghost use Rattle.front.specs.Answers.{nodeRoom, textRoom};
-ghost use Rattle.convert.specs.Text.{Ready};
+ghost use Rattle.convert.specs.Text.{Printable};
 use front::NODE_WORDS;
 use front::TEXT_BYTES;
 use libc::STDIN_FILENO;
@@ -22,7 +22,7 @@ fn no_text() -> [u8; TEXT_BYTES]
 
 // The text for a file, at the start of the bytes, and its length. With this room `printed` never answers 6, so there is no other outcome.
 fn text(file: &[u8], nodes: &mut [u32; NODE_WORDS], out: &mut [u8; TEXT_BYTES]) -> usize
-    ensures { λ r. ⌜ Ready (now (file .entry)) (now (out .exit)) r ⌝ }
+    ensures { λ r. ⌜ Printable (now (file .entry)) (now (out .exit)) r ⌝ }
 {
     let done = front::printed(file, nodes, out);
     done.length

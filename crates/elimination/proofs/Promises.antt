@@ -7,7 +7,7 @@ use lib.ListN.{length, getD, set, take, drop, replicate, length-map}
 use lib.Seq.{length-take-le}
 use Rattle.sets.specs.Members.{size, stateWidth}
 use Rattle.ground.specs.Lists.{filled}
-use Rattle.ground.specs.Writing.{allZero}
+use Rattle.buffers.specs.Writing.{allZero}
 use Rattle.ground.proofs.Places.{filled-none, filled-set, filled-take}
 use Rattle.ground.proofs.Lists.{all-map, map-same}
 use Rattle.automaton.specs.declared.Reading.{Reading}

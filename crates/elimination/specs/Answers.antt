@@ -4,7 +4,7 @@ use mathlib.Core.Path.{_≡_}
 use mathlib.Core.List.{List, _++_, map}
 use lib.ListN.{length, take, drop, replicate}
 use Rattle.ground.specs.Lists.{filled}
-use Rattle.ground.specs.Writing.{allZero}
+use Rattle.buffers.specs.Writing.{allZero}
 use Rattle.automaton.specs.declared.Refusal.{Refusal}
 use Rattle.automaton.specs.Held.{Held}
 use Rattle.automaton.specs.Checks.{holds, fault, verdict}

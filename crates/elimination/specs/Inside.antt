@@ -9,7 +9,7 @@ use mathlib.Core.List.{List, map}
 use lib.ListN.{length, getD, take}
 use Rattle.sets.specs.Members.{has, size, stateWidth, ofWord}
 use Rattle.ground.specs.Lists.{All, filled, those}
-use Rattle.ground.specs.Writing.{allZero}
+use Rattle.buffers.specs.Writing.{allZero}
 use Rattle.automaton.specs.declared.Row.{Row}
 use Rattle.automaton.specs.Held.{Held}
 use Rattle.automaton.specs.Checks.{holds, verdict}

@@ -89,7 +89,7 @@ pub fn stop(words: &mut [u32], staged: Staged) -> Partly
     ensures { λ r. ⌜ ReportsStop (now (words .entry)) staged (now (words .exit)) r ⌝ }
 {
     if MOST_NODES < staged.count as usize {
-        ground::zero(words);
+        buffers::zero(words);
         return refused_partly(Refusal::SHORT);
     }
     let list = list_rows(&words[..], staged.list);
@@ -106,7 +106,7 @@ pub fn answer(words: &mut [u32], got: Got) -> Wholly
     ensures { λ r. ⌜ ReportsAnswer (now (words .entry)) got (now (words .exit)) r ⌝ }
 {
     if MOST_NODES < got.count as usize {
-        ground::zero(words);
+        buffers::zero(words);
         return refused_whole(Refusal::SHORT);
     }
     Wholly {

@@ -18,7 +18,7 @@ use Rattle.expressions.proofs.Words.{table-words}
 use Rattle.elimination.specs.declared.Wholly.{Wholly}
 use Rattle.theory.specs.Stages.{converted}
 use Rattle.elimination.specs.Answers.{wholeNodes, writtenTo, refusedWhole, whollyDone, WhollyAnswered}
-use Rattle.ground.specs.Writing.{allZero}
+use Rattle.buffers.specs.Writing.{allZero}
 use Rattle.elimination.proofs.Outcomes.{wholly-sound}
 use Rattle.front.specs.declared.Printing.{Printing}
 use Rattle.front.specs.Text.{refusedLine, convertedListing, textOf, printedText}

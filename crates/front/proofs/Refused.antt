@@ -6,7 +6,7 @@ use mathlib.Core.List.{List, [], _∷_, _++_}
 use lib.ListN.{length, drop}
 use lib.Seq.{sets, sets-eq}
 use Rattle.listing.specs.Listing.{spaced, line}
-use Rattle.ground.proofs.Decimal.{decimal-one}
+use Rattle.buffers.proofs.Decimal.{decimal-one}
 use Rattle.front.specs.Text.{refusedLine}
 
 -- the line of a number with one digit

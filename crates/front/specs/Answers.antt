@@ -10,7 +10,7 @@ use Rattle.expressions.specs.Words.{nodeWidth}
 use Rattle.listing.specs.Listing.{longestLine, longestAnswer}
 use Rattle.theory.specs.Stages.{converted}
 use Rattle.elimination.specs.Answers.{wholeNodes, writtenTo}
-use Rattle.ground.specs.Writing.{allZero}
+use Rattle.buffers.specs.Writing.{allZero}
 use Rattle.front.specs.declared.Printing.{Printing}
 use Rattle.front.specs.Text.{printedText}
 

@@ -3,7 +3,7 @@ use Prim.Native.Nat.{ℕ, _≤_, _<_}
 use mathlib.Core.Path.{_≡_}
 use mathlib.Core.List.{List, _++_}
 use lib.ListN.{length, drop}
-use Rattle.ground.specs.Writing.{allZero}
+use Rattle.buffers.specs.Writing.{allZero}
 use Rattle.front.specs.declared.Printing.{Printing}
 use Rattle.front.specs.Text.{refusedLine}
 use Rattle.front.specs.Answers.{printing}

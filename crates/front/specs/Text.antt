@@ -3,7 +3,7 @@ use Prim.Native.Nat.{ℕ}
 use mathlib.Core.List.{List, [], _∷_}
 use Rattle.automaton.specs.Held.{Held}
 use Rattle.automaton.specs.Checks.{Verdict, holds, fault, verdict}
-use Rattle.ground.specs.Decimal.{decimal}
+use Rattle.buffers.specs.Decimal.{decimal}
 use Rattle.listing.specs.Listing.{line, plainLabel, listing}
 use Rattle.theory.specs.Stages.{converted}
 

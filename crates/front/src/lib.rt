@@ -7,6 +7,9 @@ use listing::LONGEST_LINE;
 
 mod text;
 
+// The number that says that what was lent is too small.
+const SHORT: u8 = Refusal::SHORT.number;
+
 // No conversion makes more nodes.
 const MOST_MADE: usize = 1393;
 
@@ -28,7 +31,7 @@ pub fn printed(file: &[u8], nodes: &mut [u32], out: &mut [u8]) -> Printing
 {
     let made = elimination::convert(file, nodes);
     let number = made.refusal.number;
-    if number == 6 {
+    if number == SHORT {
         return Printing {
             refusal: Refusal::SHORT,
             length: 0,
@@ -40,7 +43,7 @@ pub fn printed(file: &[u8], nodes: &mut [u32], out: &mut [u8]) -> Printing
     let listed = listing::list(&nodes[..], made.nodes, made.answer, out);
     // The table of a conversion is sound, so a number here says that the bytes are too few.
     if listed.refusal.number != 0 {
-        ground::zero(nodes);
+        buffers::zero(nodes);
         return Printing {
             refusal: Refusal::SHORT,
             length: 0,

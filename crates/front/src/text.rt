@@ -35,7 +35,7 @@ pub fn refuse(number: u8, nodes: &mut [u32], out: &mut [u8]) -> Printing
     ensures { λ r. ⌜ Refuses number (now (nodes .entry)) (now (nodes .exit)) (now (out .entry)) (now (out .exit)) r ⌝ }
 {
     if out.len() < LINE {
-        ground::zero(nodes);
+        buffers::zero(nodes);
         return Printing {
             refusal: Refusal::SHORT,
             length: 0,

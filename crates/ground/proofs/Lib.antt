@@ -3,5 +3,3 @@ pub mod Tests
 pub mod Lists
 pub mod Deciding
 pub mod Places
-pub mod Decimal
-pub mod Bytes

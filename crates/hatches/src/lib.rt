@@ -2,9 +2,9 @@
 // widen a number have none.
 use sets::StateSet;
 ghost use Rattle.sets.specs.Promises.{IsEmpty, IsOne, IsOfWord, IsUnion, SaysMember, SaysPast, IsWithout, IsCount};
-ghost use Rattle.ground.specs.Decimal.{decimal};
-ghost use Rattle.ground.specs.Writing.{Puts};
-ghost use Rattle.ground.specs.Promises.{CountsDigits, Clears};
+ghost use Rattle.buffers.specs.Decimal.{decimal};
+ghost use Rattle.buffers.specs.Writing.{Puts};
+ghost use Rattle.buffers.specs.Promises.{CountsDigits, Clears};
 
 // ---- sets
 
@@ -70,26 +70,26 @@ pub extern "C" fn door_set_count(set: StateSet) -> u32
 pub extern "C" fn door_zero(words: &mut [u32])
     ensures { λ _. ⌜ Clears (now (words .entry)) (now (words .exit)) ⌝ }
 {
-    ground::zero(words);
+    buffers::zero(words);
 }
 
 #[no_mangle]
 pub extern "C" fn door_digits(n: u64) -> usize
     ensures { λ r. ⌜ CountsDigits n r ⌝ }
 {
-    ground::digits(n)
+    buffers::digits(n)
 }
 
 #[no_mangle]
 pub extern "C" fn door_put_bytes(out: &mut [u8], at: usize, bytes: &[u8]) -> usize
     ensures { λ r. ⌜ Puts (now (out .entry)) at (now (bytes .entry)) (now (out .exit)) r ⌝ }
 {
-    ground::put_bytes(out, at, bytes)
+    buffers::put_bytes(out, at, bytes)
 }
 
 #[no_mangle]
 pub extern "C" fn door_put_number(out: &mut [u8], at: usize, n: u64) -> usize
     ensures { λ r. ⌜ Puts (now (out .entry)) at (decimal n) (now (out .exit)) r ⌝ }
 {
-    ground::put_number(out, at, n)
+    buffers::put_number(out, at, n)
 }

@@ -9,8 +9,8 @@ use lib.Dec.{ltb}
 use lib.ListN.{length, take, drop, length-append, take-append-drop}
 use lib.Seq.{sets, sets-eq}
 use borrow.Author.Tests.{lt-ltb}
-use Rattle.ground.specs.Decimal.{decimal}
-use Rattle.ground.specs.Writing.{Wrote}
+use Rattle.buffers.specs.Decimal.{decimal}
+use Rattle.buffers.specs.Writing.{Wrote}
 use Rattle.expressions.specs.declared.Shape.{Shape}
 use Rattle.expressions.specs.Nodes.{Kind, emptyᴷ, holeᴷ, symbolᴷ, altᴷ, catᴷ, iterᴷ, otherᴷ, kindOf, Table, childCount, children}
 use Rattle.expressions.specs.Words.{readNode, tableOf}

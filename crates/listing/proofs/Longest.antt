@@ -8,8 +8,8 @@ use mathlib.Core.List.{List, [], _∷_, _++_}
 use lib.Dec.{ltb}
 use lib.ListN.{length, length-append}
 use borrow.Author.Tests.{ltb-true}
-use Rattle.ground.specs.Decimal.{decimal}
-use Rattle.ground.proofs.Decimal.{digits-below, digits-four}
+use Rattle.buffers.specs.Decimal.{decimal}
+use Rattle.buffers.proofs.Decimal.{digits-below, digits-four}
 use Rattle.expressions.specs.declared.Shape.{Shape}
 use Rattle.expressions.specs.Nodes.{Kind, emptyᴷ, holeᴷ, symbolᴷ, altᴷ, catᴷ, iterᴷ, otherᴷ, kindOf, Table, nodeAt, symbolOf, childCount}
 use Rattle.expressions.specs.Words.{tableOf}

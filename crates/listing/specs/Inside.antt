@@ -4,8 +4,8 @@ use mathlib.Core.Bool.{Bool, true, false, cond}
 use mathlib.Core.List.{List, [], _∷_, _++_}
 use lib.Dec.{ltb}
 use lib.ListN.{length}
-use Rattle.ground.specs.Decimal.{decimal}
-use Rattle.ground.specs.Writing.{Wrote}
+use Rattle.buffers.specs.Decimal.{decimal}
+use Rattle.buffers.specs.Writing.{Wrote}
 use Rattle.expressions.specs.declared.Shape.{Shape}
 use Rattle.expressions.specs.Nodes.{Kind, emptyᴷ, holeᴷ, symbolᴷ, altᴷ, catᴷ, iterᴷ, otherᴷ, kindOf, childCount}
 use Rattle.listing.specs.Listing.{kindName, labelNumber}

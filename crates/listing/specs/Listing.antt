@@ -1,7 +1,7 @@
 -- The listing of a table, byte for byte, over a function that gives the bytes of a node's label.
 use Prim.Native.Nat.{ℕ, suc}
 use mathlib.Core.List.{List, [], _∷_, _++_, map}
-use Rattle.ground.specs.Decimal.{decimal}
+use Rattle.buffers.specs.Decimal.{decimal}
 use Rattle.expressions.specs.declared.Shape.{Shape}
 use Rattle.expressions.specs.Nodes.{Kind, emptyᴷ, holeᴷ, symbolᴷ, altᴷ, catᴷ, iterᴷ, otherᴷ, kindOf, Table, symbolOf, children}
 

@@ -3,7 +3,7 @@ ghost use mathlib.Core.Path.{_≡_};
 ghost use Prim.Native.Nat.{_<_, _≤_};
 ghost use lib.ListN.{length};
 ghost use Rattle.ground.specs.Decides.{Decides};
-ghost use Rattle.ground.specs.Writing.{Wrote};
+ghost use Rattle.buffers.specs.Writing.{Wrote};
 ghost use Rattle.expressions.specs.Nodes.{kindOf};
 ghost use Rattle.expressions.specs.Soundness.{Sound};
 ghost use Rattle.listing.specs.Listing.{labelNumber, plainLabel, nodeLine, answerLine};
@@ -53,7 +53,7 @@ fn field_length(used: bool, n: u32) -> usize
     ensures { λ r. ⌜ (r ≡ length (fieldBytes used n)) × (r ≤ 21) ⌝ }
 {
     if used {
-        return 1 + ground::digits(n as u64);
+        return 1 + buffers::digits(n as u64);
     }
     0
 }
@@ -97,7 +97,7 @@ fn line_length(number: u32, shape: Shape) -> usize
 {
     let head = head_length(shape.kind, shape.label);
     let fields = children_length(shape);
-    ground::digits(number as u64) + (head + (fields + 1))
+    buffers::digits(number as u64) + (head + (fields + 1))
 }
 
 // How long the listing is.
@@ -111,7 +111,7 @@ fn listing_length(words: &[u32], count: usize, answer: usize) -> usize
         total += line_length(i as u32, expressions::node_at(words, i).shape);
         i += 1;
     }
-    total + (8 + ground::digits(answer as u64))
+    total + (8 + buffers::digits(answer as u64))
 }
 
 // Does the listing fit so many bytes? Where even the longest lines would, nothing is counted.
@@ -132,8 +132,8 @@ fn put_field(out: &mut [u8], at: usize, used: bool, n: u32) -> usize
     ensures { λ r. ⌜ FitsThen (now (out .entry)) at (fieldBytes used n) (now (out .exit)) r ⌝ }
 {
     if used {
-        let next = ground::put_bytes(out, at, b" ");
-        return ground::put_number(out, next, n as u64);
+        let next = buffers::put_bytes(out, at, b" ");
+        return buffers::put_number(out, next, n as u64);
     }
     at
 }
@@ -144,10 +144,10 @@ fn put_operation(out: &mut [u8], at: usize, kind: u32) -> usize
     ensures { λ r. ⌜ FitsThen (now (out .entry)) at (nameBytes kind) (now (out .exit)) r ⌝ }
 {
     match kind {
-        3 => ground::put_bytes(out, at, b" alt"),
-        4 => ground::put_bytes(out, at, b" cat"),
-        5 => ground::put_bytes(out, at, b" iter"),
-        _ => ground::put_bytes(out, at, b" "),
+        3 => buffers::put_bytes(out, at, b" alt"),
+        4 => buffers::put_bytes(out, at, b" cat"),
+        5 => buffers::put_bytes(out, at, b" iter"),
+        _ => buffers::put_bytes(out, at, b" "),
     }
 }
 
@@ -156,9 +156,9 @@ fn put_name(out: &mut [u8], at: usize, kind: u32) -> usize
     ensures { λ r. ⌜ FitsThen (now (out .entry)) at (nameBytes kind) (now (out .exit)) r ⌝ }
 {
     match kind {
-        0 => ground::put_bytes(out, at, b" empty"),
-        1 => ground::put_bytes(out, at, b" hole"),
-        2 => ground::put_bytes(out, at, b" symbol"),
+        0 => buffers::put_bytes(out, at, b" empty"),
+        1 => buffers::put_bytes(out, at, b" hole"),
+        2 => buffers::put_bytes(out, at, b" symbol"),
         _ => put_operation(out, at, kind),
     }
 }
@@ -185,19 +185,19 @@ fn put_children(out: &mut [u8], at: usize, shape: Shape) -> usize
 fn put_line(out: &mut [u8], at: usize, number: u32, shape: Shape) -> usize
     ensures { λ r. ⌜ FitsThen (now (out .entry)) at (nodeLine plainLabel number shape) (now (out .exit)) r ⌝ }
 {
-    let head = ground::put_number(out, at, number as u64);
+    let head = buffers::put_number(out, at, number as u64);
     let fields = put_head(out, head, shape.kind, shape.label);
     let end = put_children(out, fields, shape);
-    ground::put_bytes(out, end, b"\n")
+    buffers::put_bytes(out, end, b"\n")
 }
 
 // The last line.
 fn put_answer(out: &mut [u8], at: usize, answer: u32) -> usize
     ensures { λ r. ⌜ FitsThen (now (out .entry)) at (answerLine answer) (now (out .exit)) r ⌝ }
 {
-    let name = ground::put_bytes(out, at, b"answer");
+    let name = buffers::put_bytes(out, at, b"answer");
     let end = put_field(out, name, true, answer);
-    ground::put_bytes(out, end, b"\n")
+    buffers::put_bytes(out, end, b"\n")
 }
 
 // The listing, from the first byte on.

@@ -8,7 +8,7 @@ use native.Mathlib.Omega.{arith}
 use lib.ListN.{length, getD, take, set}
 use lib.Seq.{sets, take-suc, length-take-le}
 use Rattle.automaton.specs.File.{twoBytes, fileRecord, symbolRecord, rowRecord, each}
-use Rattle.ground.proofs.Bytes.{sets-append}
+use Rattle.buffers.proofs.Bytes.{sets-append}
 use Rattle.automaton.proofs.Files.FileOf.{symbols-length}
 
 module _ {A : Type 0} where

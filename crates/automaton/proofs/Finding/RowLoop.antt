@@ -6,7 +6,7 @@ use mathlib.Core.List.{List, [], _∷_, _++_, map, map-append}
 use native.Mathlib.Omega.{arith}
 use lib.Dec.{leb, eqb}
 use lib.ListN.{length, getD, take, drop, set, replicate, length-append, length-map, length-drop}
-use borrow.Author.Tests.{le-leb, lt-leb, eq-eqb, ne-eqb, eqb-true, leb-true}
+use borrow.Author.Tests.{le-leb, lt-leb, eq-eqb, ne-eqb, eqb-true, eqb-false, leb-true}
 use Rattle.automaton.specs.Held.{Rule}
 use Rattle.automaton.specs.Checks.{holds, fault, given, Found, more, end, wrongIf, numberAt, isNone, kindAllowed, allBelow, rowValues, values, recordFound, follow}
 use Rattle.ground.specs.Lists.{filled}
@@ -146,7 +146,7 @@ module _ (file : List ℕ) (start states symbols : ℕ) (arities : List ℕ) (ro
         last-length : length (drop 4 (drop at file)) ≡ length file - at - 4
         last-length = simp length-drop
 
-        pub rows-ended : at + 4 ≡ length file → Answered 0
+        rows-ended : at + 4 ≡ length file → Answered 0
         unfolding heldSoFar
         rows-ended l = λ g k w o.
             record {
@@ -160,10 +160,17 @@ module _ (file : List ℕ) (start states symbols : ℕ) (arities : List ℕ) (ro
                   };
             }
 
-        pub rows-after : (at + 4 ≡ length file → ⊥) → Answered 5
+        rows-after : (at + 4 ≡ length file → ⊥) → Answered 5
         rows-after l =
             refused-at 5 (at + 4) (λ w. omega arith)
             (λ g k w o. end-found g k o ∙ rw (none-length (drop 4 (drop at file)), ne-eqb (length (drop 4 (drop at file))) 0 (rw last-length (λ q. l (omega (arith, rw length-drop at (passed .four)))))))
+
+        pub rows-end : (number : ℕ) → number ≡ cond (eqb (length file - at) 4) 0 5 → Answered number
+        rows-end number n = go (eqb (length file - at) 4) refl n
+          where
+            go : (b : Bool) → eqb (length file - at) 4 ≡ b → number ≡ cond b 0 5 → Answered number
+            go true t n = rw n (rows-ended (omega (arith, eqb-true (length file - at) 4 t, inv .within)))
+            go false t n = rw n (rows-after (λ q. eqb-false (length file - at) 4 t (omega (arith, q))))
 
       -- a row
       module _ (h : f .kind ≡ 9 → ⊥) where

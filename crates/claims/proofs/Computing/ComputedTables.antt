@@ -16,7 +16,7 @@ use Rattle.expressions.specs.Words.{encode, decode, readNode, nodeIn, tableOf, 
 use Rattle.expressions.specs.Unfolding.{exprsOf, builtOf, built, unfolded, exprAt}
 use Rattle.expressions.specs.Soundness.{Fits, catOpens, opensOf, opensIn, completed, SoundNode, SoundNodes, Sound}
 use Rattle.expressions.specs.Sizes.{writtenSize, heldSize}
-use Rattle.ground.specs.Decimal.{decimalIn, decimal}
+use Rattle.buffers.specs.Decimal.{decimalIn, decimal}
 use Rattle.listing.specs.Listing.{kindName, labelFields, spaced, line, labelNumber, plainLabel, headFields, nodeLine}
 use Rattle.expressions.specs.Making.{Makes}
 use Rattle.expressions.proofs.Words.{length-table}

@@ -5,11 +5,11 @@ use native.Mathlib.Decide.{decLt}
 use mathlib.Core.Path.{_≡_, refl, sym, _∙_, ap, ap₂}
 use mathlib.Core.List.{List, [], _∷_, _++_}
 use lib.ListN.{length, take, drop}
-use Rattle.ground.specs.Writing.{allZero}
+use Rattle.buffers.specs.Writing.{allZero}
 use Rattle.automaton.specs.Checks.{Verdict, verdict, holds, fault}
 use Rattle.automaton.proofs.Files.Pair.{verdict-valid}
 use Rattle.automaton.proofs.Files.Cap.{verdict-cap}
-use Rattle.ground.specs.Decimal.{decimalIn, decimal}
+use Rattle.buffers.specs.Decimal.{decimalIn, decimal}
 use Rattle.listing.specs.Listing.{spaced, line}
 use Rattle.theory.specs.Stages.{converted}
 use Rattle.elimination.specs.Answers.{wholeNodes}

@@ -6,8 +6,8 @@ use mathlib.Core.List.{List}
 use lib.ListN.{length}
 use Rattle.sets.specs.Members.{has, emptySet, oneSet, ofWord, union, hasPast, without, size, stateWidth}
 use Rattle.sets.proofs.Membership.{empty-lt, one-lt, union-lt, without-lt}
-use Rattle.ground.specs.Decimal.{decimal}
-use Rattle.ground.specs.Writing.{allZero}
+use Rattle.buffers.specs.Decimal.{decimal}
+use Rattle.buffers.specs.Writing.{allZero}
 use Rattle.automaton.specs.Checks.{Verdict, verdict, holds, fault}
 use Rattle.automaton.specs.Answers.{readingOf, readAnswer}
 use Rattle.automaton.proofs.Files.Pair.{verdict-valid}

@@ -5,7 +5,7 @@ use native.Mathlib.Decide.{decLt}
 use mathlib.Core.Path.{_≡_, refl, sym, _∙_, ap, ap₂, subst}
 use mathlib.Core.List.{List}
 use lib.ListN.{length, drop}
-use Rattle.ground.specs.Writing.{allZero}
+use Rattle.buffers.specs.Writing.{allZero}
 use Rattle.automaton.specs.Held.{Held}
 use Rattle.automaton.specs.Checks.{Verdict, verdict, holds, fault}
 use Rattle.automaton.specs.Refusals.{refusal, faultRefusal}

@@ -8,7 +8,7 @@ use mathlib.Core.List.{List, _++_}
 use lib.ListN.{length, take, drop, length-append, length-drop}
 use lib.Seq.{sets, sets-eq, length-sets}
 use Rattle.ground.specs.Lists.{All}
-use Rattle.ground.specs.Writing.{Puts}
+use Rattle.buffers.specs.Writing.{Puts}
 use Rattle.ground.proofs.Lists.{all-append}
 use Rattle.ground.proofs.Deciding.{decides-yes, decides-no}
 use Rattle.automaton.specs.declared.Automaton.{Automaton}

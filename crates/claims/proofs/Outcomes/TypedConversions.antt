@@ -5,7 +5,7 @@ use mathlib.Core.Path.{_≡_}
 use mathlib.Core.Logic.{_⊎_, inl, inr}
 use mathlib.Core.List.{List, map, List·Memᴰ}
 use lib.ListN.{length, length-replicate, length-map}
-use Rattle.ground.specs.Writing.{allZero}
+use Rattle.buffers.specs.Writing.{allZero}
 use Rattle.ground.proofs.Lists.{to-all}
 use Rattle.ground.proofs.Places.{filled-length}
 use Rattle.automaton.specs.declared.Refusal.{Refusal}

@@ -10,8 +10,8 @@ use lib.Dec.{leb, ltb}
 use Rattle.sets.specs.Members.{has, oneSet, union, without, stateWidth}
 use Rattle.sets.proofs.Membership.{empty-lt, one-lt, union-lt}
 use Rattle.ground.specs.Lists.{All}
-use Rattle.ground.specs.Decimal.{lastDigit, decimalIn, decimal}
-use Rattle.ground.proofs.Decimal.{decimal-one, decimal-more}
+use Rattle.buffers.specs.Decimal.{lastDigit, decimalIn, decimal}
+use Rattle.buffers.proofs.Decimal.{decimal-one, decimal-more}
 use Rattle.ground.proofs.Lists.{all-map, all-append}
 use Rattle.meaning.specs.Expressions.{Expr}
 use Rattle.expressions.specs.declared.Shape.{Shape}

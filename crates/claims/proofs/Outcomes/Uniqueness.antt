@@ -5,8 +5,8 @@ use native.Mathlib.Decide.{decLe}
 use mathlib.Core.Path.{_≡_, sym, _∙_}
 use mathlib.Core.List.{List}
 use lib.ListN.{length}
-use Rattle.ground.specs.Decimal.{decimal}
-use Rattle.ground.specs.Writing.{Puts}
+use Rattle.buffers.specs.Decimal.{decimal}
+use Rattle.buffers.specs.Writing.{Puts}
 use Rattle.sets.specs.declared.StateSet.{StateSet}
 use Rattle.automaton.proofs.Values.{read-once}
 use Rattle.writer.proofs.Laws.{written-once}

@@ -38,7 +38,7 @@ use Rattle.elimination.specs.declared.Partly.{Partly}
 use Rattle.elimination.specs.declared.Wholly.{Wholly}
 use Rattle.theory.specs.Stages.{stageAfter, converted}
 use Rattle.elimination.specs.Answers.{wholeNodes, unusedPlace, refusedPartly, partlyDone, PartlyAnswered, refusedWhole, whollyDone, WhollyAnswered}
-use Rattle.ground.specs.Writing.{allZero}
+use Rattle.buffers.specs.Writing.{allZero}
 use Rattle.theory.specs.RowLists.{listPlaces}
 use Rattle.ground.proofs.Lists.{of-all}
 use Rattle.front.specs.declared.Printing.{Printing}

@@ -10,7 +10,7 @@ use Rattle.expressions.specs.Words.{encode, decode, readNode, tableOf, wordsOf}
 use Rattle.expressions.specs.Unfolding.{exprsOf, builtOf, built, unfolded, exprAt}
 use Rattle.expressions.specs.Soundness.{catOpens, opensOf, opensIn, completed}
 use Rattle.expressions.specs.Sizes.{heldSize, sizesOf}
-use Rattle.ground.specs.Decimal.{decimalIn, decimal}
+use Rattle.buffers.specs.Decimal.{decimalIn, decimal}
 use Rattle.listing.specs.Listing.{kindName, labelFields, spaced, line, labelNumber, plainLabel, headFields, nodeLine, nodeLines, answerLine, listing}
 use Rattle.listing.specs.Answers.{listingOf}
 use Rattle.theory.specs.RowLists.{ascending, finalStates}

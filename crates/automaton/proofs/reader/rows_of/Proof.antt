@@ -1,7 +1,7 @@
 use Prim.Native.Nat.{_-_}
 use lib.ListN.{length}
 use native.Mathlib.Omega.{arith}
-use Rattle.automaton.proofs.Finding.RowLoop.{RowsSoFar, rows-start, rows-fault, rows-ended, rows-after, rows-many, row-two, row-five, row-there, rows-wrong, rows-next}
+use Rattle.automaton.proofs.Finding.RowLoop.{RowsSoFar, rows-start, rows-fault, rows-end, rows-many, row-two, row-five, row-there, rows-wrong, rows-next}
 use borrow.Author.Needs.{needs}
 use Rattle.automaton.proofs.reader.rows_of.Statement.{statement}
 use Rattle.automaton.proofs.reader.rows_of.Tie as tie
@@ -34,26 +34,23 @@ returns c =
     let l = c .before .before .loop in
     rows-fault (a .file .now) (a .start) (a .states) (a .symbols) (a .arities .now) (l .rows) (l .count) (l .at) (l .inv) (c .before .frame-at .result) (c .before .frame-at .ensures) (c .if1 .taken)
 
-add-if3 : tie.Need-add-if3 Inv-loop μ-loop
-add-if3 c = search needs
+sub-end-fault : tie.Need-sub-end-fault Inv-loop μ-loop
+sub-end-fault c = search needs
+
+end-fault-requires : tie.Need-end-fault-requires Inv-loop μ-loop
+end-fault-requires c κs = search needs
 
 returns-2 : tie.Need-returns-2 Inv-loop μ-loop
 returns-2 c =
     let a = c .before .before .before .before .before .before .before .before .args in
     let l = c .before .before .before .before .before .loop in
-    rows-after (a .file .now) (a .start) (a .states) (a .symbols) (a .arities .now) (l .rows) (l .count) (l .at) (l .inv) (c .before .before .before .before .frame-at .result) (c .before .before .before .before .frame-at .ensures) (c .before .before .before .if1 .left) (c .before .if2 .taken) (c .if3 .taken)
+    rows-end (a .file .now) (a .start) (a .states) (a .symbols) (a .arities .now) (l .rows) (l .count) (l .at) (l .inv) (c .before .before .before .before .frame-at .result) (c .before .before .before .before .frame-at .ensures) (c .before .before .before .if1 .left) (c .before .if2 .taken) (c .end-fault .result) (c .end-fault .ensures)
 
 returns-3 : tie.Need-returns-3 Inv-loop μ-loop
 returns-3 c =
     let a = c .before .before .before .before .before .before .before .before .args in
     let l = c .before .before .before .before .before .loop in
-    rows-ended (a .file .now) (a .start) (a .states) (a .symbols) (a .arities .now) (l .rows) (l .count) (l .at) (l .inv) (c .before .before .before .before .frame-at .result) (c .before .before .before .before .frame-at .ensures) (c .before .before .before .if1 .left) (c .before .if2 .taken) (c .if3 .left)
-
-returns-4 : tie.Need-returns-4 Inv-loop μ-loop
-returns-4 c =
-    let a = c .before .before .before .before .before .before .before .before .args in
-    let l = c .before .before .before .before .before .loop in
-    rows-many (a .file .now) (a .start) (a .states) (a .symbols) (a .arities .now) (l .rows) (l .count) (l .at) (l .inv) (c .before .before .before .before .frame-at .result) (c .before .before .before .before .frame-at .ensures) (c .before .before .before .if1 .left) (c .before .if2 .left) (c .if4 .taken)
+    rows-many (a .file .now) (a .start) (a .states) (a .symbols) (a .arities .now) (l .rows) (l .count) (l .at) (l .inv) (c .before .before .before .before .frame-at .result) (c .before .before .before .before .frame-at .ensures) (c .before .before .before .if1 .left) (c .before .if2 .left) (c .if3 .taken)
 
 cast-size : tie.Need-cast-size Inv-loop μ-loop
 cast-size c = search needs
@@ -64,11 +61,11 @@ row-at-requires c κs =
     let l = c .before .before .before .before .before .before .loop in
     (row-two (a .file .now) (a .start) (a .states) (a .symbols) (a .arities .now) (l .rows) (l .count) (l .at) (l .inv) (c .before .before .before .before .before .frame-at .result) (c .before .before .before .before .before .frame-at .ensures) (c .before .before .before .before .if1 .left) (c .before .before .if2 .left), (row-five (a .file .now) (a .start) (a .states) (a .symbols) (a .arities .now) (l .rows) (l .count) (l .at) (l .inv) (c .before .before .before .before .before .frame-at .result) (c .before .before .before .before .before .frame-at .ensures) (c .before .before .before .before .if1 .left) (c .before .before .if2 .left), (row-there (a .file .now) (a .start) (a .states) (a .symbols) (a .arities .now) (l .rows) (l .count) (l .at) (l .inv) (c .before .before .before .before .before .frame-at .result) (c .before .before .before .before .before .frame-at .ensures) (c .before .before .before .before .if1 .left) (c .before .before .if2 .left), c .before .before .before .before .before .before .before .before .before .pre .few)))
 
-returns-5 : tie.Need-returns-5 Inv-loop μ-loop
-returns-5 c =
+returns-4 : tie.Need-returns-4 Inv-loop μ-loop
+returns-4 c =
     let a = c .before .before .before .before .before .before .before .before .before .before .before .args in
     let l = c .before .before .before .before .before .before .before .before .loop in
-    rows-wrong (a .file .now) (a .start) (a .states) (a .symbols) (a .arities .now) (l .rows) (l .count) (l .at) (l .inv) (c .before .before .before .before .before .before .before .frame-at .result) (c .before .before .before .before .before .before .before .frame-at .ensures) (c .before .before .before .before .before .before .if1 .left) (c .before .before .before .before .if2 .left) (c .before .before .before .if4 .left) (c .before .row-at .result) (c .before .row-at .ensures) (c .if5 .taken)
+    rows-wrong (a .file .now) (a .start) (a .states) (a .symbols) (a .arities .now) (l .rows) (l .count) (l .at) (l .inv) (c .before .before .before .before .before .before .before .frame-at .result) (c .before .before .before .before .before .before .before .frame-at .ensures) (c .before .before .before .before .before .before .if1 .left) (c .before .before .before .before .if2 .left) (c .before .before .before .if3 .left) (c .before .row-at .result) (c .before .row-at .ensures) (c .if4 .taken)
 
 cast-rows : tie.Need-cast-rows Inv-loop μ-loop
 cast-rows c = search needs
@@ -98,7 +95,7 @@ loop-again : tie.Need-loop-again Inv-loop μ-loop
 loop-again c =
     let a = c .before .before .before .before .before .before .before .before .before .before .before .before .args in
     let l = c .before .before .before .before .before .before .before .before .before .loop in
-    rows-next (a .file .now) (a .start) (a .states) (a .symbols) (a .arities .now) (l .rows) (l .count) (l .at) (l .inv) (c .before .before .before .before .before .before .before .before .frame-at .result) (c .before .before .before .before .before .before .before .before .frame-at .ensures) (c .before .before .before .before .before .before .before .if1 .left) (c .before .before .before .before .before .if2 .left) (c .before .before .before .before .if4 .left) (c .before .before .row-at .result) (c .before .before .row-at .ensures) (c .before .if5 .left)
+    rows-next (a .file .now) (a .start) (a .states) (a .symbols) (a .arities .now) (l .rows) (l .count) (l .at) (l .inv) (c .before .before .before .before .before .before .before .before .frame-at .result) (c .before .before .before .before .before .before .before .before .frame-at .ensures) (c .before .before .before .before .before .before .before .if1 .left) (c .before .before .before .before .before .if2 .left) (c .before .before .before .before .if3 .left) (c .before .before .row-at .result) (c .before .before .row-at .ensures) (c .before .if4 .left)
 
 pub rows-of-spec : {M : Type 1} → statement M
 rows-of-spec =
@@ -110,13 +107,13 @@ rows-of-spec =
     loop-holds
     frame-at-requires
     returns
-    add-if3
+    sub-end-fault
+    end-fault-requires
     returns-2
     returns-3
-    returns-4
     cast-size
     row-at-requires
-    returns-5
+    returns-4
     cast-rows
     mul-rows
     array-set-from-rows

@@ -25,15 +25,21 @@ loop-holds c = rw (c .no-arities .ensures) (symbols-start (c .before .before .ar
 frame-at-requires : tie.Need-frame-at-requires Inv-loop μ-loop
 frame-at-requires c κs = c .loop .inv .within
 
+symbols-to-requires : tie.Need-symbols-to-requires Inv-loop μ-loop
+symbols-to-requires c κs = search needs
+
 returns : tie.Need-returns Inv-loop μ-loop
 returns c =
-    let l = c .before .before .loop in
-    symbols-fault (c .before .before .before .before .before .args .file .now) (l .arities) (l .count) (l .at) (l .inv) (c .before .frame-at .result) (c .before .frame-at .ensures) (c .if1 .taken)
+    let l = c .before .before .before .loop in
+    rw (c .symbols-to .ensures) (symbols-fault (c .before .before .before .before .before .before .args .file .now) (l .arities) (l .count) (l .at) (l .inv) (c .before .before .frame-at .result) (c .before .before .frame-at .ensures) (c .before .if1 .taken))
+
+symbols-to-requires-2 : tie.Need-symbols-to-requires-2 Inv-loop μ-loop
+symbols-to-requires-2 c κs = search needs
 
 returns-2 : tie.Need-returns-2 Inv-loop μ-loop
 returns-2 c =
-    let l = c .before .before .before .before .loop in
-    symbols-done (c .before .before .before .before .before .before .before .args .file .now) (l .arities) (l .count) (l .at) (l .inv) (c .before .before .before .frame-at .result) (c .before .before .before .frame-at .ensures) (c .before .before .if1 .left) (c .if2 .taken)
+    let l = c .before .before .before .before .before .loop in
+    rw (c .symbols-to2 .ensures) (symbols-done (c .before .before .before .before .before .before .before .before .args .file .now) (l .arities) (l .count) (l .at) (l .inv) (c .before .before .before .before .frame-at .result) (c .before .before .before .before .frame-at .ensures) (c .before .before .before .if1 .left) (c .before .if2 .taken))
 
 add-arity : tie.Need-add-arity Inv-loop μ-loop
 add-arity c = search needs
@@ -43,15 +49,21 @@ shared-slice-read-arity c =
     let l = c .before .before .before .before .before .loop in
     omega (arith, symbols-there (c .before .before .before .before .before .before .before .before .args .file .now) (l .arities) (l .count) (l .at) (l .inv) (c .before .before .before .before .frame-at .result) (c .before .before .before .before .frame-at .ensures) (c .before .before .before .if1 .left) (c .before .if2 .left))
 
+symbols-to-requires-3 : tie.Need-symbols-to-requires-3 Inv-loop μ-loop
+symbols-to-requires-3 c κs = search needs
+
 returns-3 : tie.Need-returns-3 Inv-loop μ-loop
 returns-3 c =
-    let l = c .before .before .before .before .before .before .loop in
-    symbols-many (c .before .before .before .before .before .before .before .before .before .args .file .now) (l .arities) (l .count) (l .at) (l .inv) (c .before .before .before .before .before .frame-at .result) (c .before .before .before .before .before .frame-at .ensures) (c .before .before .before .before .if1 .left) (c .before .before .if2 .left) (c .if3 .taken)
+    let l = c .before .before .before .before .before .before .before .loop in
+    rw (c .symbols-to3 .ensures) (symbols-many (c .before .before .before .before .before .before .before .before .before .before .args .file .now) (l .arities) (l .count) (l .at) (l .inv) (c .before .before .before .before .before .before .frame-at .result) (c .before .before .before .before .before .before .frame-at .ensures) (c .before .before .before .before .before .if1 .left) (c .before .before .before .if2 .left) (c .before .if3 .taken))
+
+symbols-to-requires-4 : tie.Need-symbols-to-requires-4 Inv-loop μ-loop
+symbols-to-requires-4 c κs = search needs
 
 returns-4 : tie.Need-returns-4 Inv-loop μ-loop
 returns-4 c =
-    let l = c .before .before .before .before .before .before .before .loop in
-    symbols-wide (c .before .before .before .before .before .before .before .before .before .before .args .file .now) (l .arities) (l .count) (l .at) (l .inv) (c .before .before .before .before .before .before .frame-at .result) (c .before .before .before .before .before .before .frame-at .ensures) (c .before .before .before .before .before .if1 .left) (c .before .before .before .if2 .left) (c .before .if3 .left) (c .if4 .taken)
+    let l = c .before .before .before .before .before .before .before .before .loop in
+    rw (c .symbols-to4 .ensures) (symbols-wide (c .before .before .before .before .before .before .before .before .before .before .before .args .file .now) (l .arities) (l .count) (l .at) (l .inv) (c .before .before .before .before .before .before .before .frame-at .result) (c .before .before .before .before .before .before .before .frame-at .ensures) (c .before .before .before .before .before .before .if1 .left) (c .before .before .before .before .if2 .left) (c .before .before .if3 .left) (c .before .if4 .taken))
 
 cast-arities : tie.Need-cast-arities Inv-loop μ-loop
 cast-arities c = search needs
@@ -84,11 +96,15 @@ symbols-of-spec =
     no-arities-requires
     loop-holds
     frame-at-requires
+    symbols-to-requires
     returns
+    symbols-to-requires-2
     returns-2
     add-arity
     shared-slice-read-arity
+    symbols-to-requires-3
     returns-3
+    symbols-to-requires-4
     returns-4
     cast-arities
     array-write-arities

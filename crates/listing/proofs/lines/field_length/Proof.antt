@@ -1,6 +1,6 @@
 -- `lines::field_length` meets its contract.
 use native.Mathlib.Omega.{arith}
-use Rattle.ground.proofs.Decimal.{digits-twenty}
+use Rattle.buffers.proofs.Decimal.{digits-twenty}
 use Rattle.listing.specs.Inside.{fieldBytes}
 use borrow.Author.Needs.{needs}
 use Rattle.listing.proofs.lines.field_length.Statement.{statement}

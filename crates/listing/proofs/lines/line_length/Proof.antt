@@ -1,6 +1,6 @@
 -- `lines::line_length` meets its contract: the parts of a line summed.
 use native.Mathlib.Omega.{arith}
-use Rattle.ground.proofs.Decimal.{digits-twenty}
+use Rattle.buffers.proofs.Decimal.{digits-twenty}
 use Rattle.listing.proofs.Listing.{line-size}
 use borrow.Author.Needs.{needs}
 use Rattle.listing.proofs.lines.line_length.Statement.{statement}

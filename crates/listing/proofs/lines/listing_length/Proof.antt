@@ -3,7 +3,7 @@ use native.Mathlib.Omega.{arith}
 use mathlib.Core.Path.{_≡_, sym, ap}
 use Prim.Native.Nat.{_*_, _-_, _≤_}
 use lib.ListN.{length, length-append}
-use Rattle.ground.proofs.Decimal.{digits-twenty}
+use Rattle.buffers.proofs.Decimal.{digits-twenty}
 use Rattle.expressions.specs.Words.{readNode}
 use Rattle.expressions.proofs.Words.{node-whole}
 use Rattle.listing.specs.Listing.{plainLabel, nodeLine}

@@ -1,5 +1,5 @@
 -- `lines::put_answer` meets its contract.
-use Rattle.ground.proofs.Bytes.{fits-then}
+use Rattle.buffers.proofs.Bytes.{fits-then}
 use Rattle.listing.proofs.Listing.{answer-parts}
 use borrow.Author.Needs.{needs}
 use Rattle.listing.proofs.lines.put_answer.Statement.{statement}

@@ -1,5 +1,5 @@
 -- `lines::put_children` meets its contract.
-use Rattle.ground.proofs.Bytes.{fits-then}
+use Rattle.buffers.proofs.Bytes.{fits-then}
 use Rattle.listing.specs.Inside.{childrenBytes}
 use borrow.Author.Needs.{needs}
 use Rattle.listing.proofs.lines.put_children.Statement.{statement}

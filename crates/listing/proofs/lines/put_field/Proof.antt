@@ -1,5 +1,5 @@
 -- `lines::put_field` meets its contract.
-use Rattle.ground.proofs.Bytes.{wrote-none, fits-then}
+use Rattle.buffers.proofs.Bytes.{wrote-none, fits-then}
 use Rattle.listing.specs.Inside.{fieldBytes}
 use borrow.Author.Needs.{needs}
 use Rattle.listing.proofs.lines.put_field.Statement.{statement}

@@ -1,5 +1,5 @@
 -- `lines::put_line` meets its contract: the parts of a line, one after the other.
-use Rattle.ground.proofs.Bytes.{fits-then}
+use Rattle.buffers.proofs.Bytes.{fits-then}
 use Rattle.listing.proofs.Listing.{line-parts}
 use borrow.Author.Needs.{needs}
 use Rattle.listing.proofs.lines.put_line.Statement.{statement}

@@ -4,8 +4,8 @@ use native.Mathlib.Omega.{arith}
 use mathlib.Core.Path.{_≡_, refl, _∙_}
 use Prim.Native.Nat.{_-_, _≤_}
 use lib.ListN.{length}
-use Rattle.ground.specs.Writing.{Wrote}
-use Rattle.ground.proofs.Bytes.{wrote-none, wrote-then}
+use Rattle.buffers.specs.Writing.{Wrote}
+use Rattle.buffers.proofs.Bytes.{wrote-none, wrote-then}
 use Rattle.expressions.proofs.Words.{node-whole}
 use Rattle.listing.proofs.Listing.{listing-parts, line-room, linesTo, lines-none, lines-more, listing-size}
 use Rattle.listing.proofs.lines.put_listing.Statement.{statement}

@@ -1,6 +1,6 @@
 use mathlib.Core.List.{[], _∷_}
 use Rattle.automaton.specs.File.{twoBytes, fileRecord, symbolRecord}
-use Rattle.ground.proofs.Bytes.{sets-append}
+use Rattle.buffers.proofs.Bytes.{sets-append}
 use borrow.Author.Needs.{needs}
 use Rattle.writer.proofs.puts.put_symbol.Statement.{statement}
 use Rattle.writer.proofs.puts.put_symbol.Tie as tie

@@ -9,11 +9,11 @@ use mathlib.Core.Bool.{Bool, true, false}
 use mathlib.Core.List.{List, [], _∷_, _++_, append-assoc, append-nil}
 use lib.ListN.{length, getD, set, take, length-append}
 use lib.Seq.{sets, length-sets, set-comm, take-suc}
 use Rattle.ground.specs.Decides.{Decides}
-use Rattle.ground.specs.Decimal.{lastDigit, decimal}
-use Rattle.ground.specs.Writing.{Wrote, Puts}
+use Rattle.buffers.specs.Decimal.{lastDigit, decimal}
+use Rattle.buffers.specs.Writing.{Wrote, Puts}
 use Rattle.ground.proofs.Deciding.{refuted}
-use Rattle.ground.proofs.Decimal.{decimal-one, decimal-more, decimal-two, decimal-three, decimal-four}
+use Rattle.buffers.proofs.Decimal.{decimal-one, decimal-more, decimal-two, decimal-three, decimal-four}
 
 -- ---- runs of stores
 

@@ -3,10 +3,10 @@ use native.Mathlib.Omega.{arith}
 use Prim.Native.Nat.{_+_}
 use mathlib.Core.Path.{_≡_}
 use lib.ListN.{length}
-use Rattle.ground.specs.Decimal.{decimal}
-use Rattle.ground.proofs.Decimal.{four-more, digits-twenty}
-use Rattle.ground.proofs.digits.Statement.{statement}
-use Rattle.ground.proofs.digits.Tie as tie
+use Rattle.buffers.specs.Decimal.{decimal}
+use Rattle.buffers.proofs.Decimal.{four-more, digits-twenty}
+use Rattle.buffers.proofs.digits.Statement.{statement}
+use Rattle.buffers.proofs.digits.Tie as tie
 
 abbrev Inv-loop : tie.InvT-loop
 Inv-loop n count₀ left₀ count left = length (decimal n) ≡ count + length (decimal left)

@@ -4,10 +4,10 @@ use mathlib.Core.Path.{_≡_, refl}
 use Prim.Native.Nat.{_+_, _-_, _≤_}
 use lib.ListN.{length, take, length-set}
 use lib.Seq.{take-length}
-use Rattle.ground.specs.Writing.{Wrote}
-use Rattle.ground.proofs.Bytes.{wrote-more}
-use Rattle.ground.proofs.stores.copy.Statement.{statement}
-use Rattle.ground.proofs.stores.copy.Tie as tie
+use Rattle.buffers.specs.Writing.{Wrote}
+use Rattle.buffers.proofs.Bytes.{wrote-more}
+use Rattle.buffers.proofs.stores.copy.Statement.{statement}
+use Rattle.buffers.proofs.stores.copy.Tie as tie
 
 abbrev Inv-loop : tie.InvT-loop
 Inv-loop out₀ at bytes i₀ out i = Wrote out₀ at (take i bytes) out (at + i) × (i ≤ length bytes) × (length out ≡ length out₀)

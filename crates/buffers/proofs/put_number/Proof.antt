@@ -1,9 +1,9 @@
 -- `put_number` meets its contract.
 use native.Mathlib.Omega.{arith}
-use Rattle.ground.proofs.Bytes.{puts-fit, puts-short}
+use Rattle.buffers.proofs.Bytes.{puts-fit, puts-short}
 use borrow.Author.Needs.{needs}
-use Rattle.ground.proofs.put_number.Statement.{statement}
-use Rattle.ground.proofs.put_number.Tie as tie
+use Rattle.buffers.proofs.put_number.Statement.{statement}
+use Rattle.buffers.proofs.put_number.Tie as tie
 
 digits-requires : tie.Need-digits-requires
 digits-requires c κs = tt

@@ -1,9 +1,9 @@
 -- `stores::has_room` meets its contract.
 use native.Mathlib.Omega.{arith}
 use Prim.Native.Nat.{_-_}
 use Rattle.ground.proofs.Deciding.{decides-no, decides-as, decides-le}
-use Rattle.ground.proofs.stores.has_room.Statement.{statement}
-use Rattle.ground.proofs.stores.has_room.Tie as tie
+use Rattle.buffers.proofs.stores.has_room.Statement.{statement}
+use Rattle.buffers.proofs.stores.has_room.Tie as tie
 
 returns : tie.Need-returns
 returns c = decides-no (λ h. omega arith)

@@ -7,8 +7,8 @@ use Prim.Native.Nat.{_≤_, _-_}
 use lib.ListN.{length, replicate, drop, length-set}
 use native.Mathlib.Omega.{arith}
 use borrow.Author.Needs.{needs}
-use Rattle.ground.proofs.zero.Statement.{statement}
-use Rattle.ground.proofs.zero.Tie as tie
+use Rattle.buffers.proofs.zero.Statement.{statement}
+use Rattle.buffers.proofs.zero.Tie as tie
 
 abbrev Inv-loop : tie.InvT-loop
 Inv-loop words₀ i₀ words i = (words ≡ replicate i 0 ++ drop i words₀) × ((i ≤ length words₀) × (length words ≡ length words₀))

@@ -3,9 +3,9 @@ use native.Mathlib.Omega.{arith}
 use Prim.Native.Nat.{_-_, _≤_}
 use mathlib.Core.Path.{_≡_, refl}
 use lib.ListN.{length, length-set}
-use Rattle.ground.proofs.Bytes.{Digits, digits-none, digits-more, digits-all}
-use Rattle.ground.proofs.numbers.put_digits.Statement.{statement}
-use Rattle.ground.proofs.numbers.put_digits.Tie as tie
+use Rattle.buffers.proofs.Bytes.{Digits, digits-none, digits-more, digits-all}
+use Rattle.buffers.proofs.numbers.put_digits.Statement.{statement}
+use Rattle.buffers.proofs.numbers.put_digits.Tie as tie
 
 abbrev Inv-loop : tie.InvT-loop
 Inv-loop out₀ at count n end i₀ left₀ out i left = Digits out₀ at n out i left × (i ≤ end) × (length out ≡ length out₀)

@@ -2,8 +2,8 @@
 ghost use mathlib.Core.Path.{_≡_};
 ghost use Prim.Native.Nat.{_+_, _<_, _≤_};
 ghost use lib.ListN.{length};
-ghost use Rattle.ground.specs.Decimal.{decimal, lastDigit};
-ghost use Rattle.ground.specs.Writing.{Wrote};
+ghost use Rattle.buffers.specs.Decimal.{decimal, lastDigit};
+ghost use Rattle.buffers.specs.Writing.{Wrote};
 
 // How many digits a number below 10,000 has.
 pub fn few(n: u64) -> usize

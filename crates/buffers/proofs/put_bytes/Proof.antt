@@ -1,9 +1,9 @@
 -- `put_bytes` meets its contract.
 use mathlib.Core.Path.{refl}
-use Rattle.ground.proofs.Bytes.{puts-fit, puts-short}
+use Rattle.buffers.proofs.Bytes.{puts-fit, puts-short}
 use borrow.Author.Needs.{needs}
-use Rattle.ground.proofs.put_bytes.Statement.{statement}
-use Rattle.ground.proofs.put_bytes.Tie as tie
+use Rattle.buffers.proofs.put_bytes.Statement.{statement}
+use Rattle.buffers.proofs.put_bytes.Tie as tie
 
 has-room-requires : tie.Need-has-room-requires
 has-room-requires c κs = tt

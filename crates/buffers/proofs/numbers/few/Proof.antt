@@ -1,9 +1,9 @@
 -- `numbers::few` meets its contract.
 use mathlib.Core.Path.{sym, ap}
 use lib.ListN.{length}
-use Rattle.ground.proofs.Decimal.{decimal-one, decimal-two, decimal-three, decimal-four}
-use Rattle.ground.proofs.numbers.few.Statement.{statement}
-use Rattle.ground.proofs.numbers.few.Tie as tie
+use Rattle.buffers.proofs.Decimal.{decimal-one, decimal-two, decimal-three, decimal-four}
+use Rattle.buffers.proofs.numbers.few.Statement.{statement}
+use Rattle.buffers.proofs.numbers.few.Tie as tie
 
 returns : tie.Need-returns
 returns c = sym (ap length (decimal-one _ (c .if1 .taken)))

@@ -1,8 +1,8 @@
 // Bytes stored where they are known to fit.
 ghost use Prim.Native.Nat.{_+_, _≤_};
 ghost use lib.ListN.{length};
 ghost use Rattle.ground.specs.Decides.{Decides};
-ghost use Rattle.ground.specs.Writing.{Wrote};
+ghost use Rattle.buffers.specs.Writing.{Wrote};
 
 // Do so many bytes fit from this place on? No sum is made, so any place may be asked about.
 pub fn has_room(room: usize, at: usize, count: usize) -> bool

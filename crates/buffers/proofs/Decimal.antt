@@ -9,7 +9,7 @@ use mathlib.Core.List.{List, [], _∷_, _++_}
 use lib.ListN.{length, length-append}
 use lib.Dec.{ltb}
 use borrow.Author.Tests.{lt-ltb, le-ltb, ltb-false}
-use Rattle.ground.specs.Decimal.{lastDigit, decimalIn, decimal}
+use Rattle.buffers.specs.Decimal.{lastDigit, decimalIn, decimal}
 
 -- any number of turns above the number gives the same digits
 turns-same : (f g n : ℕ) → n < f → n < g → decimalIn f n ≡ decimalIn g n
