@@ -69,6 +69,7 @@ below-some (suc n) test i h e = go (dec_lt i n) (λ l. below-some n test i l e)
 -- ---- each element
 
 pub of-all : {A : Type 0} (P : A → Type 0) {x : A} (xs : List A) → All P xs → Memᴰ x xs → P x
+of-all {A = A} P [] a x3 = elim x3 [ ]
 of-all P (y ∷ ys) a (Memᴰ.head e) = rw e a.0
 of-all P (y ∷ ys) a (Memᴰ.tail m) = of-all P ys a.1 m
 
@@ -144,6 +145,7 @@ to-all P (x ∷ xs) h = (h x (Memᴰ.head refl), to-all P xs (λ y m. h y (Mem�
 module _ {A : Type 0} (test : A → Bool) where
   pub in-those : {x : A} (xs : List A) → Memᴰ x xs → T (test x) → Memᴰ x (those test xs)
   unfolding those
+  in-those {x = x} [] x3 t = elim x3 [ ]
   in-those {x} (y ∷ ys) (Memᴰ.head e) t = go (test y) (rw e at t)
     where
       go : (b : Bool) → T b → Memᴰ x (cond b (y ∷ those test ys) (those test ys))

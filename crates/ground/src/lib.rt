@@ -1,4 +1,5 @@
 // The ground under every room: numbers made wide. The laws of lists, of tests and of decisions stand in proofs/.
+#![tactic(auto)]
 ghost use Rattle.ground.specs.Promises.{IsIndex, IsWidened};
 
 // A byte as an index.
