@@ -1,0 +1,7 @@
+use Rattle.automaton.specs.Checks.{number_at}
+use borrow.Author.Rules.{rules}
+use Rattle.automaton.proofs.reader.number_at.Goals as goal
+
+pub returns : goal.returns
+unfolding number_at
+returns c = rw (c.wide.ensures.0, c.wide-2.ensures.0)

@@ -1,0 +1,12 @@
+use Prim.Native.Nat.{◌-◌}
+use lib.ListN.{length}
+use native.Mathlib.Omega.{arith}
+use Rattle.automaton.proofs.Finding.RowLoop.{RowsSoFar, rows_start, rows-fault, rows_end, rows-many, row-two, row-five, row-there, rows-wrong, rows_next}
+use borrow.Author.Rules.{rules}
+use Rattle.automaton.proofs.reader.rows_of.Given as goal
+
+abbrev pub invariant-loop-frame : goal.invariant-loop-frame
+invariant-loop-frame l = RowsSoFar l.file l.start l.states l.symbols l.arities l.rows l.count l.at
+
+abbrev pub decreases-loop-frame : goal.decreases-loop-frame
+decreases-loop-frame l = length l.file - l.at

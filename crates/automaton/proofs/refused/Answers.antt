@@ -1,0 +1,7 @@
+use Rattle.automaton.specs.Answers.{no_automaton}
+use borrow.Author.Rules.{rules}
+use Rattle.automaton.proofs.refused.Goals as goal
+
+pub returns : goal.returns
+unfolding no_automaton
+returns c = rw (c.no_arities-arities.ensures, c.no_rows-rows.ensures)
