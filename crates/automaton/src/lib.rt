@@ -26,7 +26,7 @@ pub const ROW_PLACES: usize = MOST_ROWS as usize;
 
 // A refusal by its number; 0 is done.
 #[repr(C)]
-#[derive(Drop)]
+#[derive(Clone, Copy)]
 pub struct Refusal {
     pub number: u8,
 }
@@ -53,7 +53,7 @@ impl Refusal {
 
 // A row: symbol, target state, and the source states from the left; places past the symbol's arity are not used.
 #[repr(C)]
-#[derive(Drop)]
+#[derive(Clone, Copy)]
 pub struct Row {
     pub symbol: u8,
     pub target: u8,
@@ -62,7 +62,7 @@ pub struct Row {
 
 // The automaton. Places of `arities` past `symbols`, and places of `rows` past `count`, are not used.
 #[repr(C)]
-#[derive(Drop)]
+#[derive(Clone, Copy)]
 pub struct Automaton {
     pub states: u8,
     pub finals: StateSet,
@@ -74,7 +74,7 @@ pub struct Automaton {
 
 // What `read` answers: on a refusal every number of the automaton is 0.
 #[repr(C)]
-#[derive(Drop)]
+#[derive(Clone, Copy)]
 pub struct Reading {
     pub refusal: Refusal,
     pub automaton: Automaton,

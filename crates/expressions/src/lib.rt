@@ -1,4 +1,5 @@
 // Expressions: the node table, checked, measured and made.
+#![tactic(auto)]
 ghost use Rattle.std.specs.Prelude.{◌≡◌};
 ghost use Rattle.expressions.specs.Nodes.{child_count, shape_of};
 ghost use Rattle.expressions.specs.Words.{node_in};
@@ -22,7 +23,7 @@ pub const MOST_NODES: usize = 4096;
 
 // What a node says: its kind, its label and three places for children.
 #[repr(C)]
-#[derive(Drop)]
+#[derive(Clone, Copy)]
 pub struct Shape {
     pub kind: u32,
     pub label: u32,
@@ -33,7 +34,7 @@ pub struct Shape {
 
 // A node: its shape, and the open set that follows from those of its children.
 #[repr(C)]
-#[derive(Drop)]
+#[derive(Clone, Copy)]
 pub struct Node {
     pub shape: Shape,
     pub opens: u32,

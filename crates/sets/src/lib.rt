@@ -8,7 +8,7 @@ pub const MOST_STATES: u8 = 16;
 const WIDTH: u32 = MOST_STATES as u32;
 
 #[repr(C)]
-#[derive(Drop)]
+#[derive(Clone, Copy)]
 pub struct StateSet(pub u16);
 
 impl StateSet {

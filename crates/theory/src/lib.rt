@@ -2,7 +2,7 @@
 
 // A row of the list: a node and a target.
 #[repr(C)]
-#[derive(Drop)]
+#[derive(Clone, Copy)]
 pub struct NodeRow {
     pub node: u16,
     pub target: u8,

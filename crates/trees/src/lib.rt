@@ -1,4 +1,5 @@
 // Running a tree through an automaton, and its productive states.
+#![tactic(auto)]
 ghost use Rattle.trees.specs.Promises.{RunPromise, ProductivePromise};
 
 use automaton::Refusal;

@@ -1,4 +1,5 @@
 // The writer of the automaton file: the bytes of any value that a file can hold.
+#![tactic(auto)]
 mod fits;
 mod puts;
 
