@@ -1,4 +1,5 @@
 // The conversion: the states of a file's automaton taken out one after the other, and the expression that is left.
+#![tactic(auto)]
 ghost use Rattle.automaton.specs.Answers.{held_by};
 ghost use Rattle.automaton.specs.Handed.{Handed};
 ghost use Rattle.elimination.specs.Answers.{PartlyAnswered, WhollyAnswered};
@@ -18,7 +19,7 @@ pub const LIST_PLACES: usize = automaton::ROW_PLACES + automaton::MOST_STATES as
 
 // A row of a partial conversion's list: its node, its target, and how many different states it still waits for.
 #[repr(C)]
-#[derive(Drop)]
+#[derive(Clone, Copy)]
 pub struct ListRow {
     pub node: u16,
     pub target: u8,

@@ -14,7 +14,7 @@ use sets::StateSet;
 const NO_ROOM: u32 = expressions::MOST_NODES as u32 + 1;
 
 // What a maker answers: the number of nodes, or that there was no room, and the node asked for.
-#[derive(Drop)]
+#[derive(Clone, Copy)]
 pub struct Got {
     pub count: u32,
     pub node: u32,

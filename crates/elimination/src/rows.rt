@@ -15,14 +15,14 @@ pub const FINAL_TARGET: u8 = automaton::MOST_STATES;
 const UNUSED: NodeRow = NodeRow { node: 0, target: 0 };
 
 // The list: so many rows, in order, at its first places.
-#[derive(Drop)]
+#[derive(Clone, Copy)]
 pub struct Rows {
     pub count: usize,
     pub places: [NodeRow; LIST_PLACES],
 }
 
 // What a maker of rows answers: the number of nodes, or that there was no room, and the list.
-#[derive(Drop)]
+#[derive(Clone, Copy)]
 pub struct Staged {
     pub count: u32,
     pub list: Rows,

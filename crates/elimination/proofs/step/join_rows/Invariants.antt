@@ -1,0 +1,11 @@
+use Prim.Native.Nat.{◌-◌}
+use native.Mathlib.Omega.{arith}
+use Rattle.theory.proofs.Expressions.OnExpressions.{looping}
+use Rattle.elimination.proofs.Joining.{JoinLoop, loop-end, loop-next, loop-start}
+use Rattle.elimination.proofs.step.join_rows.Given as goal
+
+abbrev pub invariant-loop-i : goal.invariant-loop-i
+invariant-loop-i l = JoinLoop l.q l.looping l.list l.initial.words l.initial.got l.words l.got l.i
+
+abbrev pub decreases-loop-i : goal.decreases-loop-i
+decreases-loop-i l = l.list.count - l.i

@@ -1,0 +1,24 @@
+use Prim.Native.Nat.{ℕ}
+use borrow.Author.Rules.{rules}
+use mathlib.Core.Path.{◌∙◌, ap, sym}
+use Rattle.expressions.specs.Words.{node_in}
+use Rattle.elimination.specs.Inside.{open_in}
+use Rattle.elimination.proofs.Replacing.{replace-open, replace-own}
+use Rattle.elimination.proofs.step.replace.Goals as goal
+
+pub returns-then-opens : goal.returns-then-opens
+returns-then-opens c =
+    let make-cat = c.make_cat in
+    let a = c.args in
+    let p = c.requires in
+    let w = c.wide16-node.ensures in
+    let o = ap (λ (n : ℕ). open_in a.q (node_in a.words.now n)) (sym w) ∙ sym c.opens.ensures in
+    replace-open a.words.now a.last a.q p.q_lt_state_width a.standin a.row p.fact (o ∙ c.if-opens.true) make-cat.new.words make-cat.result (rw w at make-cat.ensures)
+
+pub returns : goal.returns
+returns c =
+    let a = c.args in
+    let p = c.requires in
+    let w = c.wide16-node.ensures in
+    let o = ap (λ (n : ℕ). open_in a.q (node_in a.words.now n)) (sym w) ∙ sym c.opens.ensures in
+    rw w (replace-own a.words.now a.last a.q p.q_lt_state_width a.standin a.row p.fact (o ∙ c.if-opens.false))

@@ -1,0 +1,11 @@
+use Prim.Native.Nat.{◌-◌}
+use mathlib.Core.Path.{◌∙◌, sym}
+use native.Mathlib.Omega.{arith}
+use Rattle.elimination.proofs.Replacing.{ReplaceLoop, replace-end, replace-gone, replace-kept, replace-more, replace-start}
+use Rattle.elimination.proofs.step.replace_rows.Given as goal
+
+abbrev pub invariant-loop-i : goal.invariant-loop-i
+invariant-loop-i l = ReplaceLoop l.q l.list l.initial.words l.standin l.words l.places l.kept l.got l.i
+
+abbrev pub decreases-loop-i : goal.decreases-loop-i
+decreases-loop-i l = l.list.count - l.i

@@ -1,0 +1,11 @@
+use borrow.Author.Rules.{rules}
+use Rattle.automaton.specs.Answers.{held_by}
+use Rattle.elimination.proofs.Promises.{wholly-ended}
+use Rattle.elimination.proofs.wholly_of.Goals as goal
+
+pub returns : goal.returns
+returns c =
+    let answer = c.answer in
+    let wholly = c.wholly-got in
+    let a = c.args in
+    wholly-ended (held_by a.value) a.nodes.now wholly.new.words wholly.result wholly.ensures wholly.auto.words answer.new.words answer.result answer.ensures
