@@ -2,7 +2,7 @@
 ghost use Rattle.std.specs.Prelude.{◌≤◌};
 
 use crate::texts;
-use libc::STDOUT_FILENO;
+const STDOUT_FILENO: i32 = 1;
 use sets::StateSet;
 
 pub fn byte(byte: u8) {

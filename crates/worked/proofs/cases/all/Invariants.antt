@@ -1,0 +1,12 @@
+-- It goes through the cases. What is left of a division is below the divisor.
+use Prim.Native.Nat.{◌-◌, ◌≤◌}
+use native.Mathlib.Omega.{arith}
+use borrow.Author.Rules.{rules}
+use Rattle.worked.proofs.Lent.{part}
+use Rattle.worked.proofs.cases.all.Given as goal
+
+abbrev pub invariant-loop-i : goal.invariant-loop-i
+invariant-loop-i l = l.i ≤ 90
+
+abbrev pub decreases-loop-i : goal.decreases-loop-i
+decreases-loop-i l = 90 - l.i
