@@ -1,5 +1,6 @@
 // The automaton: its value, and the reader of its file.
 #![tactic(auto)]
+
 mod reader;
 
 ghost use Rattle.std.specs.Prelude.{◌≡◌, replicate};

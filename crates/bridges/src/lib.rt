@@ -1,4 +1,6 @@
 // Doors in C's calling convention to the conversions and to the text that is printed, as `doors` has them to files, trees and tables.
+#![tactic(auto)]
+
 ghost use Rattle.elimination.specs.Answers.{PartlyAnswered, WhollyAnswered};
 ghost use Rattle.front.specs.Answers.{Prints};
 

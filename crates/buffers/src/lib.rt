@@ -1,5 +1,6 @@
 // What is put into lent words and bytes: zeros, bytes, and numbers in decimal.
 #![tactic(auto)]
+
 ghost use Rattle.buffers.specs.Decimal.{decimal};
 ghost use Rattle.buffers.specs.Writing.{Puts};
 ghost use Rattle.buffers.specs.Promises.{CountsDigits, Clears};

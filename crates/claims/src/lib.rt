@@ -1,1 +1,3 @@
+#![tactic(auto)]
+
 // Nothing to run: what is promised of the crates below, as statements in specs/, and their proofs.

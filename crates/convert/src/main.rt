@@ -1,11 +1,13 @@
 // The converter: an automaton file on standard input, and on standard output the listing of its expression, or "refused N".
 #![tactic(auto)]
+
 ghost use Rattle.std.specs.Prelude.{◌≡◌, replicate};
 ghost use Rattle.front.specs.Answers.{node_room, text_room};
 ghost use Rattle.convert.specs.Text.{Printable};
 
 use front::{NODE_WORDS, TEXT_BYTES};
 
+// The descriptors of standard input and standard output.
 const STDIN_FILENO: i32 = 0;
 
 const STDOUT_FILENO: i32 = 1;

@@ -1,5 +1,6 @@
 // The conversion: the states of a file's automaton taken out one after the other, and the expression that is left.
 #![tactic(auto)]
+
 ghost use Rattle.automaton.specs.Answers.{held_by};
 ghost use Rattle.automaton.specs.Handed.{Handed};
 ghost use Rattle.elimination.specs.Answers.{PartlyAnswered, WhollyAnswered};

@@ -1,5 +1,5 @@
 -- The laws of soundness: a table is sound node by node, each over those before it; a made node keeps it sound, and unfolds to the expression of its shape.
-use Prim.Native.Nat.{ℕ, ◌+◌, ◌<◌}
+use Prim.Native.Nat.{ℕ, ◌<◌}
 use native.Mathlib.Omega.{arith}
 use native.Mathlib.Decide.{dec_lt}
 use mathlib.Core.Path.{◌≡◌, refl, ◌∙◌, ap, subst}

@@ -1,5 +1,6 @@
 // Expressions: the node table, checked, measured and made.
 #![tactic(auto)]
+
 ghost use Rattle.std.specs.Prelude.{◌≡◌};
 ghost use Rattle.expressions.specs.Nodes.{child_count, shape_of};
 ghost use Rattle.expressions.specs.Words.{node_in};

@@ -1,5 +1,6 @@
 // From a file's bytes to the bytes that the program prints: the listing of the converted automaton, or "refused N".
 #![tactic(auto)]
+
 ghost use Rattle.front.specs.Answers.{Prints};
 
 use automaton::Refusal;

@@ -1,5 +1,6 @@
 // The ground under every room: numbers made wide. The laws of lists, of tests and of decisions stand in proofs/.
 #![tactic(auto)]
+
 ghost use Rattle.ground.specs.Promises.{IsIndex, IsWidened};
 
 // A byte as an index.

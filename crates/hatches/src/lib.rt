@@ -1,5 +1,7 @@
 // Doors in C's calling convention to the functions on sets and to the helpers, as `doors` and `bridges` have them to the others; the three of `ground` that only
 // widen a number have none.
+#![tactic(auto)]
+
 ghost use Rattle.sets.specs.Promises.{IsEmpty, IsOne, IsOfWord, IsUnion, SaysMember, SaysPast, IsWithout, IsCount};
 ghost use Rattle.buffers.specs.Decimal.{decimal};
 ghost use Rattle.buffers.specs.Writing.{Puts};

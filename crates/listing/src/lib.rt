@@ -1,5 +1,6 @@
 // The listing of a node table: a line for each node, and one that names the answer.
 #![tactic(auto)]
+
 ghost use Rattle.listing.specs.Answers.{Lists};
 
 use automaton::Refusal;

@@ -1,5 +1,6 @@
 // Sets of states: sixteen bits, bit i for state i. Any number is taken as a state; 16 and more is in no set.
 #![tactic(auto)]
+
 ghost use Rattle.sets.specs.Promises.{IsEmpty, IsOne, IsOfWord, IsUnion, SaysMember, SaysPast, IsWithout, IsCount};
 
 // The most states that a set can have, and the bits of a set.

@@ -1,4 +1,5 @@
 // Taking states out of a row list, as definitions, and the theorem on it. There is nothing to run.
+#![tactic(auto)]
 
 // A row of the list: a node and a target.
 #[repr(C)]

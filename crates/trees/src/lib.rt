@@ -1,5 +1,6 @@
 // Running a tree through an automaton, and its productive states.
 #![tactic(auto)]
+
 ghost use Rattle.trees.specs.Promises.{RunPromise, ProductivePromise};
 
 use automaton::Refusal;

@@ -1,5 +1,6 @@
 // Every worked draft (docs/REQUIREMENTS.md, section 10) through the public functions, and the cases beyond them: one line each. What it must write was worked out apart from this program.
 #![tactic(auto)]
+
 mod cases;
 mod conversions;
 mod files;

@@ -2,8 +2,10 @@
 ghost use Rattle.std.specs.Prelude.{◌≤◌};
 
 use crate::texts;
-const STDOUT_FILENO: i32 = 1;
 use sets::StateSet;
+
+// The descriptor of standard output.
+const STDOUT_FILENO: i32 = 1;
 
 pub fn byte(byte: u8) {
     io::write_all(STDOUT_FILENO, &[byte]);

@@ -1,5 +1,5 @@
 -- The laws of the pair over the promises of `read` and `write`: reading what was written gives the same automaton with unused places 0; a file that reads and is written back is the same bytes; and each promise has one outcome.
-use Prim.Native.Nat.{ℕ, ◌+◌, ◌≤◌}
+use Prim.Native.Nat.{ℕ, ◌≤◌}
 use mathlib.Core.Path.{◌≡◌, sym, ap, ◌∙◌}
 use mathlib.Core.List.{List, ◌++◌}
 use native.Mathlib.Nat.{lt_of_not-le}

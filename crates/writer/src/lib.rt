@@ -1,5 +1,6 @@
 // The writer of the automaton file: the bytes of any value that a file can hold.
 #![tactic(auto)]
+
 mod fits;
 mod puts;
 

@@ -1,6 +1,5 @@
 use mathlib.Core.Path.{◌∙◌}
 use Rattle.automaton.proofs.Finding.Whole.{head-refused, symbols-refused, rows-asked, rows-refused, all_read}
-use borrow.Author.Rules.{rules}
 use Rattle.automaton.proofs.read.Goals as goal
 
 pub returns-then-head-ne0 : goal.returns-then-head-ne0

@@ -1,5 +1,4 @@
 use Rattle.automaton.specs.Answers.{no_automaton}
-use borrow.Author.Rules.{rules}
 use Rattle.automaton.proofs.refused.Goals as goal
 
 pub returns : goal.returns

@@ -1,8 +1,4 @@
 use native.Mathlib.Omega.{arith}
-use Prim.Native.Nat.{◌+◌}
-use mathlib.Core.Path.{◌≡◌}
-use lib.ListN.{length}
-use Rattle.buffers.specs.Decimal.{decimal}
 use Rattle.buffers.proofs.Decimal.{four-more, digits-twenty}
 use Rattle.buffers.proofs.digits.Goals as goal
 

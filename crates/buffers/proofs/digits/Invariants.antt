@@ -1,10 +1,8 @@
 -- `digits` meets its contract. The invariant: those counted and those of what is left are all.
-use native.Mathlib.Omega.{arith}
 use Prim.Native.Nat.{◌+◌}
 use mathlib.Core.Path.{◌≡◌}
 use lib.ListN.{length}
 use Rattle.buffers.specs.Decimal.{decimal}
-use Rattle.buffers.proofs.Decimal.{four-more, digits-twenty}
 use Rattle.buffers.proofs.digits.Given as goal
 
 abbrev pub invariant-loop-left : goal.invariant-loop-left

@@ -1,7 +1,6 @@
 -- `put_bytes` meets its contract.
 use mathlib.Core.Path.{refl}
 use Rattle.buffers.proofs.Bytes.{puts-fit, puts-short}
-use borrow.Author.Rules.{rules}
 use Rattle.buffers.proofs.put_bytes.Goals as goal
 
 pub has_room-requires : goal.has_room-requires

@@ -1,7 +1,6 @@
 -- `put_number` meets its contract.
 use native.Mathlib.Omega.{arith}
 use Rattle.buffers.proofs.Bytes.{puts-fit, puts-short}
-use borrow.Author.Rules.{rules}
 use Rattle.buffers.proofs.put_number.Goals as goal
 
 pub digits-count-requires : goal.digits-count-requires

@@ -1,9 +1,8 @@
-use mathlib.Core.List.{◌++◌, append-nil}
+use mathlib.Core.List.{append-nil}
 use lib.Seq.{drop-length}
 use borrow.Author.Fill.{fill_more}
 use mathlib.Core.Path.{◌≡◌, refl, ◌∙◌}
-use Prim.Native.Nat.{◌≤◌, ◌-◌}
-use lib.ListN.{length, replicate, drop, length-set}
+use lib.ListN.{length, length-set}
 use native.Mathlib.Omega.{arith}
 use borrow.Author.Rules.{rules}
 use Rattle.buffers.proofs.zero.Goals as goal

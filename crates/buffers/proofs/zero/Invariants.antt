@@ -1,12 +1,8 @@
 -- `zero` meets its contract. The invariant: the words passed are 0, the rest is as it was. The measure is what is left of them.
-use mathlib.Core.List.{◌++◌, append-nil}
-use lib.Seq.{drop-length}
-use borrow.Author.Fill.{fill_more}
-use mathlib.Core.Path.{◌≡◌, refl, ◌∙◌}
+use mathlib.Core.List.{◌++◌}
+use mathlib.Core.Path.{◌≡◌}
 use Prim.Native.Nat.{◌≤◌, ◌-◌}
-use lib.ListN.{length, replicate, drop, length-set}
-use native.Mathlib.Omega.{arith}
-use borrow.Author.Rules.{rules}
+use lib.ListN.{length, replicate, drop}
 use Rattle.buffers.proofs.zero.Given as goal
 
 abbrev pub invariant-loop-i : goal.invariant-loop-i

@@ -1,7 +1,6 @@
 -- The program is safe, and prints what `text` gives.
 use mathlib.Core.Path.{sym}
 use lib.Seq.{length-take-le}
-use borrow.Author.Rules.{rules}
 use Rattle.convert.proofs.main.Goals as goal
 
 pub slice_bounds-write_all-end : goal.slice_bounds-write_all-end

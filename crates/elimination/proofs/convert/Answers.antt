@@ -1,4 +1,3 @@
-use borrow.Author.Rules.{rules}
 use Rattle.automaton.proofs.Handing.{read_held}
 use Rattle.elimination.proofs.Promises.{wholly-held, wholly-refused}
 use Rattle.elimination.proofs.convert.Goals as goal

@@ -1,4 +1,3 @@
-use borrow.Author.Rules.{rules}
 use Rattle.automaton.proofs.Handing.{read_held}
 use Rattle.elimination.proofs.Promises.{partly-held, partly-refused}
 use Rattle.elimination.proofs.convert_partly.Goals as goal

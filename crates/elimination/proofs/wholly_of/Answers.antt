@@ -1,4 +1,3 @@
-use borrow.Author.Rules.{rules}
 use Rattle.automaton.specs.Answers.{held_by}
 use Rattle.elimination.proofs.Promises.{wholly-ended}
 use Rattle.elimination.proofs.wholly_of.Goals as goal

@@ -1,7 +1,6 @@
 -- `expressions::is_sound` meets its contract.
 use native.Mathlib.Omega.{arith}
 use Rattle.ground.proofs.Deciding.{decides-as, decides-no}
-use borrow.Author.Rules.{rules}
 use Rattle.expressions.proofs.is_sound.Goals as goal
 
 pub returns-then-count-gt-MOST_NODES : goal.returns-then-count-gt-MOST_NODES

@@ -1,10 +1,8 @@
 -- `expressions::make` meets its contract: one law for each outcome.
 use native.Mathlib.Omega.{arith}
-use borrow.Author.Tests.{not-true, not-false}
 use Rattle.ground.proofs.Deciding.{refuted}
 use Rattle.expressions.proofs.Checks.{makes-unfit, makes-full, makes-done}
 use Rattle.expressions.specs.Nodes.{shape_of}
-use borrow.Author.Rules.{rules}
 use Rattle.expressions.proofs.make.Goals as goal
 
 pub returns-then-not-shape_fits : goal.returns-then-not-shape_fits

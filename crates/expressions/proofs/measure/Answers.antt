@@ -1,9 +1,7 @@
 -- `expressions::measure` meets its contract: one law for each outcome.
 use native.Mathlib.Omega.{arith}
-use borrow.Author.Tests.{not-true, not-false}
 use Rattle.ground.proofs.Deciding.{refuted}
 use Rattle.expressions.proofs.Written.{measures-unsound, measures-short, measures-done}
-use borrow.Author.Rules.{rules}
 use Rattle.expressions.proofs.measure.Goals as goal
 
 pub is_sound-requires : goal.is_sound-requires

@@ -2,7 +2,6 @@
 use native.Mathlib.Omega.{arith}
 use mathlib.Core.Path.{sym, ◌∙◌}
 use Rattle.expressions.proofs.Words.{node-whole, node-past}
-use borrow.Author.Rules.{rules}
 use Rattle.expressions.proofs.node_at.Goals as goal
 
 pub returns-then-i-words : goal.returns-then-i-words

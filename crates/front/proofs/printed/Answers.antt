@@ -1,6 +1,5 @@
 -- `printed` meets its contract: one law for each way to an answer.
 use Rattle.front.proofs.Outcomes.{prints-no-nodes, number_small, prints-refused, prints-no-bytes, prints-listed}
-use borrow.Author.Rules.{rules}
 use Rattle.front.proofs.printed.Goals as goal
 
 pub returns-then-number-eq-SHORT : goal.returns-then-number-eq-SHORT

@@ -1,9 +1,7 @@
 -- `listing::list` meets its contract: one law for each outcome.
 use native.Mathlib.Omega.{arith}
-use borrow.Author.Tests.{not-true, not-false}
 use Rattle.ground.proofs.Deciding.{refuted}
 use Rattle.listing.proofs.Listing.{lists-unsound, lists-short, lists-done}
-use borrow.Author.Rules.{rules}
 use Rattle.listing.proofs.list.Goals as goal
 
 pub returns-then-not-is_sound : goal.returns-then-not-is_sound

@@ -7,7 +7,6 @@ use mathlib.Core.List.{List, [], ◌∷◌, Memᴰ}
 use mathlib.Core.Logic.{◌⊎◌, inl, inr, ◌↔◌}
 use lib.Dec.{T, eqb, eqb→eq, T_not}
 use Rattle.meaning.specs.Trees.{Tree}
-use Rattle.meaning.specs.Fillings.{at}
 use Rattle.meaning.specs.Expressions.{Expr, emptyᴱ, holeᴱ, symbolᴱ, altᴱ, catᴱ, iterᴱ, Concatenated, Iterated, Denotes, is_open}
 use Rattle.ground.proofs.Tests.{of-true, not_of_false, or_cases, and_cases, eq_test}
 use Rattle.meaning.proofs.Meaning.{concatenated-hole, level-nothing}

@@ -3,7 +3,6 @@ use Rattle.automaton.specs.Held.{Held}
 use Rattle.trees.specs.Promises.{no_states, StatesOf, ProductivePromise}
 use Rattle.trees.proofs.Promised.{productive-fault, productive-held}
 use Rattle.automaton.proofs.Handing.{read-fault, read_held}
-use borrow.Author.Rules.{rules}
 use Rattle.trees.proofs.productive.Goals as goal
 
 pub returns-then-reading-ne0 : goal.returns-then-reading-ne0

@@ -4,7 +4,6 @@ use Rattle.trees.specs.Promises.{no_run, RunPromise}
 use Rattle.trees.specs.Piles.{words_answer}
 use Rattle.trees.proofs.Promised.{run-fault, run-held}
 use Rattle.automaton.proofs.Handing.{read-fault, read_held}
-use borrow.Author.Rules.{rules}
 use Rattle.trees.proofs.run.Goals as goal
 
 pub returns-then-reading-ne0 : goal.returns-then-reading-ne0

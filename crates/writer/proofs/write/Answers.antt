@@ -1,5 +1,4 @@
 use Rattle.writer.proofs.Writes.{write-unfit, write-short, write_done}
-use borrow.Author.Rules.{rules}
 use Rattle.writer.proofs.write.Goals as goal
 
 pub returns-then-length-eq0 : goal.returns-then-length-eq0

@@ -1,8 +1,6 @@
 use mathlib.Core.Path.{sym, ◌∙◌}
-use borrow.Author.Tests.{not-true, not-false}
 use Rattle.automaton.specs.Inside.{allowed_by}
 use Rattle.automaton.proofs.Finding.Frames.{frame-short, frame-kind, frame-length, frame-cut, frame-whole}
-use borrow.Author.Rules.{rules}
 use Rattle.automaton.proofs.reader.frame_at.Goals as goal
 
 pub returns-then-left-lt4 : goal.returns-then-left-lt4

@@ -1,7 +1,6 @@
 use mathlib.Core.Path.{sym, ◌∙◌}
 use native.Mathlib.Omega.{arith}
 use Rattle.automaton.proofs.Finding.Heads.{head-fault, head-there, head_few, head-many, head-past, head_read}
-use borrow.Author.Rules.{rules}
 use Rattle.automaton.proofs.reader.head_of.Goals as goal
 
 pub returns-then-frame-ne0 : goal.returns-then-frame-ne0

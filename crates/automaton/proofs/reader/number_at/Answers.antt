@@ -1,5 +1,4 @@
 use Rattle.automaton.specs.Checks.{number_at}
-use borrow.Author.Rules.{rules}
 use Rattle.automaton.proofs.reader.number_at.Goals as goal
 
 pub returns : goal.returns

@@ -1,6 +1,5 @@
 use borrow.Author.Tests.{not-true, not-false}
 use Rattle.automaton.proofs.Finding.Rows.{row-unknown, row-unsuited, row-aimless, row-sourceless, row-good}
-use borrow.Author.Rules.{rules}
 use Rattle.automaton.proofs.reader.row_at.Goals as goal
 
 pub returns-then-symbols-symbol : goal.returns-then-symbols-symbol

@@ -1,8 +1,6 @@
 use Prim.Native.Nat.{◌-◌}
 use lib.ListN.{length}
-use native.Mathlib.Omega.{arith}
-use Rattle.automaton.proofs.Finding.RowLoop.{RowsSoFar, rows_start, rows-fault, rows_end, rows-many, row-two, row-five, row-there, rows-wrong, rows_next}
-use borrow.Author.Rules.{rules}
+use Rattle.automaton.proofs.Finding.RowLoop.{RowsSoFar}
 use Rattle.automaton.proofs.reader.rows_of.Given as goal
 
 abbrev pub invariant-loop-frame : goal.invariant-loop-frame

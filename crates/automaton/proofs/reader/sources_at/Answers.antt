@@ -1,6 +1,5 @@
 use native.Mathlib.Omega.{arith}
-use Rattle.automaton.proofs.Finding.Sources.{SourcesSoFar, sources-start, sources-bad, sources_next, sources-done}
-use Prim.Native.Nat.{◌-◌}
+use Rattle.automaton.proofs.Finding.Sources.{sources-start, sources-bad, sources_next, sources-done}
 use Rattle.automaton.proofs.reader.sources_at.Goals as goal
 
 pub loop-i-init : goal.loop-i-init

@@ -1,5 +1,4 @@
-use native.Mathlib.Omega.{arith}
-use Rattle.automaton.proofs.Finding.Sources.{SourcesSoFar, sources-start, sources-bad, sources_next, sources-done}
+use Rattle.automaton.proofs.Finding.Sources.{SourcesSoFar}
 use Prim.Native.Nat.{◌-◌}
 use Rattle.automaton.proofs.reader.sources_at.Given as goal
 

@@ -1,8 +1,5 @@
-use Prim.Native.Nat.{◌-◌}
-use lib.ListN.{length}
 use native.Mathlib.Omega.{arith}
-use Rattle.automaton.proofs.Finding.Symbols.{SymbolsSoFar, symbols-start, symbols-fault, symbols-done, symbols-there, symbols-many, symbols-wide, symbols-next}
-use borrow.Author.Rules.{rules}
+use Rattle.automaton.proofs.Finding.Symbols.{symbols-start, symbols-fault, symbols-done, symbols-there, symbols-many, symbols-wide, symbols-next}
 use Rattle.automaton.proofs.reader.symbols_of.Goals as goal
 
 pub loop-frame-init : goal.loop-frame-init

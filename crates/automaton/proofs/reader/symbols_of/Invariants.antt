@@ -1,8 +1,6 @@
 use Prim.Native.Nat.{◌-◌}
 use lib.ListN.{length}
-use native.Mathlib.Omega.{arith}
-use Rattle.automaton.proofs.Finding.Symbols.{SymbolsSoFar, symbols-start, symbols-fault, symbols-done, symbols-there, symbols-many, symbols-wide, symbols-next}
-use borrow.Author.Rules.{rules}
+use Rattle.automaton.proofs.Finding.Symbols.{SymbolsSoFar}
 use Rattle.automaton.proofs.reader.symbols_of.Given as goal
 
 abbrev pub invariant-loop-frame : goal.invariant-loop-frame

@@ -1,8 +1,7 @@
 use native.Mathlib.Omega.{arith}
-use Prim.Native.Nat.{◌-◌, ◌≤◌}
-use mathlib.Core.Path.{◌≡◌, refl}
-use lib.ListN.{length, length-set}
-use Rattle.buffers.proofs.Bytes.{Digits, digits-none, digits_more, digits-all}
+use mathlib.Core.Path.{refl}
+use lib.ListN.{length-set}
+use Rattle.buffers.proofs.Bytes.{digits-none, digits_more, digits-all}
 use Rattle.buffers.proofs.numbers.put_digits.Goals as goal
 
 pub overflow_add-end : goal.overflow_add-end

@@ -1,9 +1,8 @@
 -- `numbers::put_digits` meets its contract. The invariant: from place i on the digits stand, and those before it are the digits of what is left.
-use native.Mathlib.Omega.{arith}
 use Prim.Native.Nat.{◌-◌, ◌≤◌}
-use mathlib.Core.Path.{◌≡◌, refl}
-use lib.ListN.{length, length-set}
-use Rattle.buffers.proofs.Bytes.{Digits, digits-none, digits_more, digits-all}
+use mathlib.Core.Path.{◌≡◌}
+use lib.ListN.{length}
+use Rattle.buffers.proofs.Bytes.{Digits}
 use Rattle.buffers.proofs.numbers.put_digits.Given as goal
 
 abbrev pub invariant-loop-i : goal.invariant-loop-i

@@ -1,9 +1,7 @@
 use native.Mathlib.Omega.{arith}
 use mathlib.Core.Path.{◌≡◌, refl}
-use Prim.Native.Nat.{◌+◌, ◌-◌, ◌≤◌}
-use lib.ListN.{length, take, length-set}
+use lib.ListN.{length, length-set}
 use lib.Seq.{take-length}
-use Rattle.buffers.specs.Writing.{Wrote}
 use Rattle.buffers.proofs.Bytes.{wrote-more}
 use Rattle.buffers.proofs.stores.copy.Goals as goal
 

@@ -1,11 +1,8 @@
 -- `stores::copy` meets its contract. The invariant: the bytes passed are written. The measure is what is left of them.
-use native.Mathlib.Omega.{arith}
-use mathlib.Core.Path.{◌≡◌, refl}
+use mathlib.Core.Path.{◌≡◌}
 use Prim.Native.Nat.{◌+◌, ◌-◌, ◌≤◌}
-use lib.ListN.{length, take, length-set}
-use lib.Seq.{take-length}
+use lib.ListN.{length, take}
 use Rattle.buffers.specs.Writing.{Wrote}
-use Rattle.buffers.proofs.Bytes.{wrote-more}
 use Rattle.buffers.proofs.stores.copy.Given as goal
 
 abbrev pub invariant-loop-i : goal.invariant-loop-i

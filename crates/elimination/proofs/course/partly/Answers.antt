@@ -1,4 +1,3 @@
-use borrow.Author.Rules.{rules}
 use native.Mathlib.Omega.{arith}
 use Rattle.automaton.specs.Answers.{held_by}
 use Rattle.elimination.proofs.Conversion.{partly-gives}

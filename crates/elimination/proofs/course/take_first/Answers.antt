@@ -1,6 +1,5 @@
-use Prim.Native.Nat.{◌-◌}
 use native.Mathlib.Omega.{arith}
-use Rattle.elimination.proofs.States.{StateLoop, states-end, states-next, states-start}
+use Rattle.elimination.proofs.States.{states-end, states-next, states-start}
 use Rattle.elimination.proofs.course.take_first.Goals as goal
 
 pub loop-q-init : goal.loop-q-init

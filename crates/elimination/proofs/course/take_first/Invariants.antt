@@ -1,6 +1,5 @@
 use Prim.Native.Nat.{◌-◌}
-use native.Mathlib.Omega.{arith}
-use Rattle.elimination.proofs.States.{StateLoop, states-end, states-next, states-start}
+use Rattle.elimination.proofs.States.{StateLoop}
 use Rattle.elimination.proofs.course.take_first.Given as goal
 
 abbrev pub invariant-loop-q : goal.invariant-loop-q

@@ -1,4 +1,3 @@
-use borrow.Author.Rules.{rules}
 use mathlib.Core.Path.{◌∙◌}
 use Rattle.automaton.specs.Answers.{held_by}
 use Rattle.elimination.proofs.Conversion.{wholly-gives}

@@ -1,4 +1,3 @@
-use borrow.Author.Rules.{rules}
 use lib.Dec.{eqb}
 use mathlib.Core.Path.{ap}
 use Rattle.expressions.specs.declared.Node.{Node}

@@ -1,4 +1,3 @@
-use borrow.Author.Rules.{rules}
 use mathlib.Core.Path.{◌∙◌, ap, sym}
 use Rattle.expressions.specs.Words.{node_in}
 use Rattle.expressions.specs.declared.Node.{Node}

@@ -1,4 +1,3 @@
-use borrow.Author.Rules.{rules}
 use mathlib.Core.Path.{◌∙◌, sym}
 use Rattle.elimination.proofs.Makers.{alt-both, alt-left, alt-right}
 use Rattle.elimination.proofs.maker.make_alt.Goals as goal

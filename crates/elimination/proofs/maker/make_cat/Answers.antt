@@ -1,4 +1,3 @@
-use borrow.Author.Rules.{rules}
 use mathlib.Core.Path.{◌∙◌, sym}
 use Rattle.elimination.proofs.Makers.{cat-both, cat-left}
 use Rattle.elimination.proofs.maker.make_cat.Goals as goal

@@ -1,4 +1,3 @@
-use borrow.Author.Rules.{rules}
 use mathlib.Core.Path.{◌∙◌, sym}
 use Rattle.elimination.proofs.Makers.{iter-none, iter-some}
 use Rattle.elimination.proofs.maker.make_iter.Goals as goal

@@ -1,4 +1,3 @@
-use borrow.Author.Rules.{rules}
 use native.Mathlib.Omega.{arith}
 use Rattle.expressions.specs.Nodes.{shape_of}
 use Rattle.elimination.proofs.Makers.{new-few, new-made, new_none}

@@ -1,4 +1,3 @@
-use borrow.Author.Rules.{rules}
 use mathlib.Core.Path.{◌∙◌, refl}
 use Rattle.elimination.proofs.maker.opens.Goals as goal
 

@@ -1,4 +1,3 @@
-use borrow.Author.Rules.{rules}
 use mathlib.Core.Path.{◌∙◌}
 use Rattle.elimination.proofs.Makers.{size-cut}
 use Rattle.elimination.proofs.maker.waits.Goals as goal

@@ -1,4 +1,3 @@
-use borrow.Author.Rules.{rules}
 use Rattle.elimination.proofs.Promises.{answer-done, answer-short}
 use Rattle.elimination.proofs.report.answer.Goals as goal
 

@@ -1,6 +1,5 @@
-use Prim.Native.Nat.{◌-◌}
 use native.Mathlib.Omega.{arith}
-use Rattle.elimination.proofs.Promises.{ListLoop, list-end, list-next, list-start}
+use Rattle.elimination.proofs.Promises.{list-end, list-next, list-start}
 use Rattle.elimination.proofs.report.list_rows.Goals as goal
 
 pub no_rows-out-requires : goal.no_rows-out-requires

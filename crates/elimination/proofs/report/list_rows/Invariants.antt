@@ -1,6 +1,5 @@
 use Prim.Native.Nat.{◌-◌}
-use native.Mathlib.Omega.{arith}
-use Rattle.elimination.proofs.Promises.{ListLoop, list-end, list-next, list-start}
+use Rattle.elimination.proofs.Promises.{ListLoop}
 use Rattle.elimination.proofs.report.list_rows.Given as goal
 
 abbrev pub invariant-loop-i : goal.invariant-loop-i

@@ -1,4 +1,3 @@
-use borrow.Author.Rules.{rules}
 use Rattle.elimination.specs.Answers.{refused_partly}
 use Rattle.elimination.proofs.report.refused_partly.Goals as goal
 

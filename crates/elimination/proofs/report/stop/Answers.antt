@@ -1,4 +1,3 @@
-use borrow.Author.Rules.{rules}
 use Rattle.elimination.proofs.Promises.{stop-done, stop-short}
 use Rattle.elimination.proofs.report.stop.Goals as goal
 

@@ -1,4 +1,3 @@
-use borrow.Author.Rules.{rules}
 use native.Mathlib.Omega.{arith}
 use Rattle.elimination.proofs.Conversion.{begin-gives, begin-tidy, rules-few, rules-listed}
 use Rattle.elimination.proofs.Starting.{states-same}

@@ -1,4 +1,3 @@
-use borrow.Author.Rules.{rules}
 use Rattle.elimination.proofs.Starting.{child-here, child-none}
 use Rattle.elimination.proofs.start.child.Goals as goal
 

@@ -1,8 +1,6 @@
-use Prim.Native.Nat.{◌-◌}
 use mathlib.Core.Path.{◌∙◌, sym}
 use native.Mathlib.Omega.{arith}
-use Rattle.elimination.specs.Inside.{rows_in}
-use Rattle.elimination.proofs.Starting.{FinalLoop, finals-end, finals-skip, finals-start, finals-take}
+use Rattle.elimination.proofs.Starting.{finals-end, finals-skip, finals-start, finals-take}
 use Rattle.elimination.proofs.start.put_finals.Goals as goal
 
 pub loop-q-init : goal.loop-q-init

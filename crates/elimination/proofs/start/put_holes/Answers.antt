@@ -1,7 +1,6 @@
-use Prim.Native.Nat.{◌-◌}
 use mathlib.Core.Path.{◌∙◌}
 use native.Mathlib.Omega.{arith}
-use Rattle.elimination.proofs.Starting.{HoleLoop, empty-put, holes-end, holes-more, holes-start}
+use Rattle.elimination.proofs.Starting.{empty-put, holes-end, holes-more, holes-start}
 use Rattle.elimination.proofs.start.put_holes.Goals as goal
 
 pub new_node-got-requires : goal.new_node-got-requires

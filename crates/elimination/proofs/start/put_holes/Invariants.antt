@@ -1,7 +1,5 @@
 use Prim.Native.Nat.{◌-◌}
-use mathlib.Core.Path.{◌∙◌}
-use native.Mathlib.Omega.{arith}
-use Rattle.elimination.proofs.Starting.{HoleLoop, empty-put, holes-end, holes-more, holes-start}
+use Rattle.elimination.proofs.Starting.{HoleLoop}
 use Rattle.elimination.proofs.start.put_holes.Given as goal
 
 abbrev pub invariant-loop-q : goal.invariant-loop-q

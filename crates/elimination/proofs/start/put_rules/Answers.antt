@@ -1,6 +1,5 @@
-use Prim.Native.Nat.{◌-◌}
 use native.Mathlib.Omega.{arith}
-use Rattle.elimination.proofs.Starting.{RuleLoop, rule-arity, rule-place, rule-symbol, rules-end, rules-next, rules-start}
+use Rattle.elimination.proofs.Starting.{rule-arity, rule-place, rule-symbol, rules-end, rules-next, rules-start}
 use Rattle.elimination.proofs.start.put_rules.Goals as goal
 
 pub index-n-requires : goal.index-n-requires

@@ -1,6 +1,5 @@
 use Prim.Native.Nat.{◌-◌}
-use native.Mathlib.Omega.{arith}
-use Rattle.elimination.proofs.Starting.{RuleLoop, rule-arity, rule-place, rule-symbol, rules-end, rules-next, rules-start}
+use Rattle.elimination.proofs.Starting.{RuleLoop}
 use Rattle.elimination.proofs.start.put_rules.Given as goal
 
 abbrev pub invariant-loop-i : goal.invariant-loop-i

@@ -1,6 +1,5 @@
-use Prim.Native.Nat.{◌-◌}
 use native.Mathlib.Omega.{arith}
-use Rattle.elimination.proofs.Starting.{RuleRowLoop, rows_end, rows-low, rows_next, rows_start, rule-place}
+use Rattle.elimination.proofs.Starting.{rows_end, rows-low, rows_next, rows_start, rule-place}
 use Rattle.elimination.proofs.start.rule_rows.Goals as goal
 
 pub index-n-requires : goal.index-n-requires

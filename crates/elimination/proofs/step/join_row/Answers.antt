@@ -1,4 +1,3 @@
-use borrow.Author.Rules.{rules}
 use Rattle.elimination.proofs.Joining.{row-joined, row-passed}
 use Rattle.elimination.proofs.step.join_row.Goals as goal
 

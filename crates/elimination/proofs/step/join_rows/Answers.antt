@@ -1,7 +1,5 @@
-use Prim.Native.Nat.{◌-◌}
 use native.Mathlib.Omega.{arith}
-use Rattle.theory.proofs.Expressions.OnExpressions.{looping}
-use Rattle.elimination.proofs.Joining.{JoinLoop, loop-end, loop-next, loop-start}
+use Rattle.elimination.proofs.Joining.{loop-end, loop-next, loop-start}
 use Rattle.elimination.proofs.step.join_rows.Goals as goal
 
 pub loop-i-init : goal.loop-i-init

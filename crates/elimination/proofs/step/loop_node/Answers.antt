@@ -1,4 +1,3 @@
-use borrow.Author.Rules.{rules}
 use Rattle.elimination.proofs.OneState.{loop-node}
 use Rattle.elimination.proofs.step.loop_node.Goals as goal
 

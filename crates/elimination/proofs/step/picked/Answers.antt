@@ -1,5 +1,4 @@
 use Prim.Native.Nat.{ℕ}
-use borrow.Author.Rules.{rules}
 use mathlib.Core.Path.{◌∙◌, ap}
 use Rattle.expressions.specs.Words.{node_in}
 use Rattle.elimination.specs.Inside.{open_in}

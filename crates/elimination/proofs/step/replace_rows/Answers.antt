@@ -1,7 +1,6 @@
-use Prim.Native.Nat.{◌-◌}
 use mathlib.Core.Path.{◌∙◌, sym}
 use native.Mathlib.Omega.{arith}
-use Rattle.elimination.proofs.Replacing.{ReplaceLoop, replace-end, replace-gone, replace-kept, replace-more, replace-start}
+use Rattle.elimination.proofs.Replacing.{replace-end, replace-gone, replace-kept, replace-more, replace-start}
 use Rattle.elimination.proofs.step.replace_rows.Goals as goal
 
 pub loop-i-init : goal.loop-i-init

@@ -1,7 +1,5 @@
 use Prim.Native.Nat.{◌-◌}
-use mathlib.Core.Path.{◌∙◌, sym}
-use native.Mathlib.Omega.{arith}
-use Rattle.elimination.proofs.Replacing.{ReplaceLoop, replace-end, replace-gone, replace-kept, replace-more, replace-start}
+use Rattle.elimination.proofs.Replacing.{ReplaceLoop}
 use Rattle.elimination.proofs.step.replace_rows.Given as goal
 
 abbrev pub invariant-loop-i : goal.invariant-loop-i

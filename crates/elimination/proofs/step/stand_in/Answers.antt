@@ -1,4 +1,3 @@
-use borrow.Author.Rules.{rules}
 use Rattle.elimination.proofs.OneState.{stand-in}
 use Rattle.elimination.proofs.step.stand_in.Goals as goal
 

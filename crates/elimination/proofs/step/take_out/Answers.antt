@@ -1,4 +1,3 @@
-use borrow.Author.Rules.{rules}
 use Rattle.elimination.proofs.OneState.{taken_out}
 use Rattle.elimination.proofs.step.take_out.Goals as goal
 

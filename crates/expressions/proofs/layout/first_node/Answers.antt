@@ -1,7 +1,6 @@
 -- `layout::first_node` meets its contract.
 use mathlib.Core.Path.{refl}
 use Rattle.expressions.specs.Words.{decode}
-use borrow.Author.Rules.{rules}
 use Rattle.expressions.proofs.layout.first_node.Goals as goal
 
 pub returns : goal.returns

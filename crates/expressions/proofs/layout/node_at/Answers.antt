@@ -3,7 +3,6 @@ use Rattle.expressions.specs.Words.{node_width, decode, read_node}
 use mathlib.Core.Path.{◌∙◌, ap}
 use Prim.Native.Nat.{◌*◌}
 use Rattle.expressions.proofs.Words.{rest_part}
-use borrow.Author.Rules.{rules}
 use Rattle.expressions.proofs.layout.node_at.Goals as goal
 
 pub returns : goal.returns

@@ -4,7 +4,6 @@ use mathlib.Core.Path.{◌≡◌}
 use Prim.Native.Nat.{◌+◌, ◌*◌, ◌-◌}
 use Rattle.expressions.specs.Words.{node_width}
 use Rattle.expressions.proofs.Words.{put-part}
-use borrow.Author.Rules.{rules}
 use Rattle.expressions.proofs.layout.put.Goals as goal
 
 pub returns : goal.returns

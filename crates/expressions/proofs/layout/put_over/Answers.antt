@@ -2,7 +2,6 @@
 use native.Mathlib.Omega.{arith}
 use lib.ListN.{length-set}
 use Rattle.expressions.proofs.Words.{six-stores}
-use borrow.Author.Rules.{rules}
 use Rattle.expressions.proofs.layout.put_over.Goals as goal
 
 pub bounds-words-3 : goal.bounds-words-3

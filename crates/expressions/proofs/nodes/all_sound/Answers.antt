@@ -1,9 +1,5 @@
 use native.Mathlib.Omega.{arith}
 use mathlib.Core.Path.{◌≡◌}
-use Prim.Native.Nat.{◌≤◌, ◌-◌}
-use borrow.Author.Tests.{not-true, not-false}
-use Rattle.expressions.specs.Words.{table_of}
-use Rattle.expressions.specs.Soundness.{SoundNodes}
 use Rattle.ground.proofs.Deciding.{decides-no, decides-yes, refuted}
 use Rattle.expressions.proofs.Checks.{sound-start, sound_more, sound-node}
 use Rattle.expressions.proofs.nodes.all_sound.Goals as goal

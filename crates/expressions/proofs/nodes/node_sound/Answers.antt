@@ -1,9 +1,7 @@
 -- `nodes::node_sound` meets its contract.
 use native.Mathlib.Omega.{arith}
-use borrow.Author.Tests.{not-true, not-false}
 use Rattle.ground.proofs.Deciding.{refuted}
 use Rattle.expressions.proofs.Checks.{children-whole, node-unfit, node-decided}
-use borrow.Author.Rules.{rules}
 use Rattle.expressions.proofs.nodes.node_sound.Goals as goal
 
 pub returns-then-not-shape_fits : goal.returns-then-not-shape_fits

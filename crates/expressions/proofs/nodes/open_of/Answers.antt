@@ -6,7 +6,6 @@ use Rattle.sets.proofs.Bits.{empty-zero}
 use Rattle.expressions.specs.Nodes.{child_count, children}
 use Rattle.expressions.specs.Soundness.{opens_of, opens_in}
 use Rattle.expressions.proofs.KindLaws.{no_kind}
-use borrow.Author.Rules.{rules}
 use Rattle.expressions.proofs.nodes.open_of.Goals as goal
 
 pub union_opens-requires : goal.union_opens-requires

@@ -1,7 +1,6 @@
 -- `nodes::opens_of` meets its contract.
 use mathlib.Core.Path.{ap}
 use Rattle.expressions.specs.declared.Node.{Node}
-use borrow.Author.Rules.{rules}
 use Rattle.expressions.proofs.nodes.opens_of.Goals as goal
 
 pub returns : goal.returns

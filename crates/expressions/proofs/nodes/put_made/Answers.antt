@@ -3,7 +3,6 @@ use native.Mathlib.Omega.{arith}
 use mathlib.Core.Path.{◌∙◌, ap}
 use Rattle.expressions.specs.Words.{put_node}
 use Rattle.expressions.proofs.Checks.{children-whole, completed-words}
-use borrow.Author.Rules.{rules}
 use Rattle.expressions.proofs.nodes.put_made.Goals as goal
 
 pub open_of-opens-requires : goal.open_of-opens-requires

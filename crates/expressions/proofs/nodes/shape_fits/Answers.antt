@@ -1,8 +1,6 @@
 -- `nodes::shape_fits` meets its contract: the label and the three places decide.
-use borrow.Author.Tests.{not-true, not-false}
 use Rattle.ground.proofs.Deciding.{decides-as, decides-no, refuted}
 use Rattle.expressions.proofs.Places.{fits-of, first-ok, second-ok, third-ok}
-use borrow.Author.Rules.{rules}
 use Rattle.expressions.proofs.nodes.shape_fits.Goals as goal
 
 pub returns-then-not-label_fits : goal.returns-then-not-label_fits

@@ -4,7 +4,6 @@ use Prim.Native.Nat.{suc, ◌*◌, ◌≤◌}
 use lib.ListN.{length}
 use Rattle.expressions.specs.Words.{node_width, read_node}
 use Rattle.expressions.proofs.Places.{child-first, child-second, child-third, union-three}
-use borrow.Author.Rules.{rules}
 use Rattle.expressions.proofs.nodes.union_opens.Goals as goal
 
 pub joined-last-requires : goal.joined-last-requires

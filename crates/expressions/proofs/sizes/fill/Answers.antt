@@ -1,9 +1,9 @@
 use Rattle.expressions.proofs.Checks.{sound-fits}
 use native.Mathlib.Omega.{arith}
 use mathlib.Core.Path.{◌≡◌, refl, ◌∙◌, ap}
-use Prim.Native.Nat.{ℕ, ◌≤◌, ◌-◌}
-use lib.ListN.{length, set, length-set}
-use Rattle.expressions.proofs.Written.{so_far, so-far-none, so_far_more}
+use Prim.Native.Nat.{ℕ}
+use lib.ListN.{set, length-set}
+use Rattle.expressions.proofs.Written.{so-far-none, so_far_more}
 use Rattle.expressions.proofs.sizes.fill.Goals as goal
 
 pub loop-i-init : goal.loop-i-init

@@ -4,7 +4,6 @@ use Prim.Native.Nat.{◌<◌}
 use lib.ListN.{length, get_or}
 use Rattle.expressions.specs.Inside.{size_over}
 use Rattle.expressions.proofs.Places.{child-first, child-second, child-third, sum-three}
-use borrow.Author.Rules.{rules}
 use Rattle.expressions.proofs.sizes.over_children.Goals as goal
 
 pub part-a-requires : goal.part-a-requires

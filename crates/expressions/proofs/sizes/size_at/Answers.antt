@@ -3,7 +3,6 @@ use native.Mathlib.Omega.{arith}
 use Rattle.expressions.specs.Nodes.{children}
 use Rattle.ground.proofs.Lists.{all_map}
 use Rattle.expressions.proofs.Written.{held-under, held-over}
-use borrow.Author.Rules.{rules}
 use Rattle.expressions.proofs.sizes.size_at.Goals as goal
 
 pub size_over-total-requires : goal.size_over-total-requires

@@ -2,7 +2,6 @@
 use native.Mathlib.Omega.{arith}
 use lib.ListN.{length-set}
 use Rattle.front.proofs.Refused.{refused-there}
-use borrow.Author.Rules.{rules}
 use Rattle.front.proofs.text.put_refused.Goals as goal
 
 pub bounds-out-1 : goal.bounds-out-1

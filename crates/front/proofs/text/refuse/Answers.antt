@@ -1,7 +1,6 @@
 -- `text::refuse` meets its contract.
 use native.Mathlib.Omega.{arith}
 use mathlib.Core.Path.{refl}
-use borrow.Author.Rules.{rules}
 use Rattle.front.proofs.text.refuse.Goals as goal
 
 pub returns-then-out-lt-LINE : goal.returns-then-out-lt-LINE

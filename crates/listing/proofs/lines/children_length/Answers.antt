@@ -2,7 +2,6 @@
 use native.Mathlib.Omega.{arith}
 use lib.ListN.{length-append}
 use Rattle.listing.specs.Inside.{children_bytes}
-use borrow.Author.Rules.{rules}
 use Rattle.listing.proofs.lines.children_length.Goals as goal
 
 pub returns : goal.returns

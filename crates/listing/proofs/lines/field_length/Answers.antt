@@ -2,7 +2,6 @@
 use native.Mathlib.Omega.{arith}
 use Rattle.buffers.proofs.Decimal.{digits-twenty}
 use Rattle.listing.specs.Inside.{field_bytes}
-use borrow.Author.Rules.{rules}
 use Rattle.listing.proofs.lines.field_length.Goals as goal
 
 pub overflow_add-result : goal.overflow_add-result

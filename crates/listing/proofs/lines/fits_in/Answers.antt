@@ -2,7 +2,6 @@
 use native.Mathlib.Omega.{arith}
 use Rattle.ground.proofs.Deciding.{decides-yes, decides-le}
 use Rattle.listing.proofs.Longest.{listing-bound}
-use borrow.Author.Rules.{rules}
 use Rattle.listing.proofs.lines.fits_in.Goals as goal
 
 pub returns-then-count-room : goal.returns-then-count-room

@@ -1,7 +1,6 @@
 -- `lines::has_label` meets its contract: each arm by computing.
 use native.Mathlib.Omega.{arith}
 use Rattle.expressions.proofs.KindLaws.{other-kind}
-use borrow.Author.Rules.{rules}
 use Rattle.listing.proofs.lines.has_label.Goals as goal
 
 pub returns-in_default : goal.returns-in_default

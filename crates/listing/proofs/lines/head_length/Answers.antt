@@ -1,7 +1,6 @@
 -- `lines::head_length` meets its contract.
 use native.Mathlib.Omega.{arith}
 use Rattle.listing.proofs.Listing.{head-size}
-use borrow.Author.Rules.{rules}
 use Rattle.listing.proofs.lines.head_length.Goals as goal
 
 pub returns : goal.returns

@@ -2,7 +2,6 @@
 use native.Mathlib.Omega.{arith}
 use Rattle.buffers.proofs.Decimal.{digits-twenty}
 use Rattle.listing.proofs.Listing.{line-size}
-use borrow.Author.Rules.{rules}
 use Rattle.listing.proofs.lines.line_length.Goals as goal
 
 pub overflow_add-result-3 : goal.overflow_add-result-3

@@ -1,13 +1,11 @@
 use native.Mathlib.Omega.{arith}
 use mathlib.Core.Path.{◌≡◌, sym, ap}
-use Prim.Native.Nat.{◌*◌, ◌-◌, ◌≤◌}
 use lib.ListN.{length, length-append}
 use Rattle.buffers.proofs.Decimal.{digits-twenty}
 use Rattle.expressions.specs.Words.{read_node}
 use Rattle.expressions.proofs.Words.{node-whole}
 use Rattle.listing.specs.Listing.{plain_label, node_line}
 use Rattle.listing.proofs.Listing.{lines_to, lines_none, lines_more, answer-size, listing-size}
-use borrow.Author.Rules.{rules}
 use Rattle.listing.proofs.lines.listing_length.Goals as goal
 
 pub loop-i-init : goal.loop-i-init

@@ -1,7 +1,6 @@
 -- `lines::put_answer` meets its contract.
 use Rattle.buffers.proofs.Bytes.{fits-then}
 use Rattle.listing.proofs.Listing.{answer-parts}
-use borrow.Author.Rules.{rules}
 use Rattle.listing.proofs.lines.put_answer.Goals as goal
 
 pub returns : goal.returns

@@ -1,7 +1,6 @@
 -- `lines::put_children` meets its contract.
 use Rattle.buffers.proofs.Bytes.{fits-then}
 use Rattle.listing.specs.Inside.{children_bytes}
-use borrow.Author.Rules.{rules}
 use Rattle.listing.proofs.lines.put_children.Goals as goal
 
 pub returns : goal.returns

@@ -1,7 +1,6 @@
 -- `lines::put_field` meets its contract.
 use Rattle.buffers.proofs.Bytes.{wrote_none, fits-then}
 use Rattle.listing.specs.Inside.{field_bytes}
-use borrow.Author.Rules.{rules}
 use Rattle.listing.proofs.lines.put_field.Goals as goal
 
 pub returns-then-used : goal.returns-then-used

@@ -1,7 +1,6 @@
 -- `lines::put_head` meets its contract.
 use Rattle.buffers.proofs.Bytes.{fits-then}
 use Rattle.listing.specs.Inside.{head_bytes}
-use borrow.Author.Rules.{rules}
 use Rattle.listing.proofs.lines.put_head.Goals as goal
 
 pub returns : goal.returns

@@ -1,7 +1,6 @@
 -- `lines::put_line` meets its contract: the parts of a line, one after the other.
 use Rattle.buffers.proofs.Bytes.{fits-then}
 use Rattle.listing.proofs.Listing.{line-parts}
-use borrow.Author.Rules.{rules}
 use Rattle.listing.proofs.lines.put_line.Goals as goal
 
 pub returns : goal.returns

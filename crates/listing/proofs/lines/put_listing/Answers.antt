@@ -1,12 +1,8 @@
-use borrow.Author.Rules.{rules}
 use native.Mathlib.Omega.{arith}
 use mathlib.Core.Path.{◌≡◌, refl, ◌∙◌}
-use Prim.Native.Nat.{◌-◌, ◌≤◌}
-use lib.ListN.{length}
-use Rattle.buffers.specs.Writing.{Wrote}
 use Rattle.buffers.proofs.Bytes.{wrote_none, wrote_then}
 use Rattle.expressions.proofs.Words.{node-whole}
-use Rattle.listing.proofs.Listing.{listing-parts, line-room, lines_to, lines_none, lines_more, listing-size}
+use Rattle.listing.proofs.Listing.{listing-parts, line-room, lines_none, lines_more, listing-size}
 use Rattle.listing.proofs.lines.put_listing.Goals as goal
 
 pub loop-i-init : goal.loop-i-init

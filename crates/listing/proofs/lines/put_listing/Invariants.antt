@@ -1,13 +1,9 @@
 -- `lines::put_listing` meets its contract. The invariant: the lines passed are written. The measure is what is left of the count.
-use borrow.Author.Rules.{rules}
-use native.Mathlib.Omega.{arith}
-use mathlib.Core.Path.{◌≡◌, refl, ◌∙◌}
+use mathlib.Core.Path.{◌≡◌}
 use Prim.Native.Nat.{◌-◌, ◌≤◌}
 use lib.ListN.{length}
 use Rattle.buffers.specs.Writing.{Wrote}
-use Rattle.buffers.proofs.Bytes.{wrote_none, wrote_then}
-use Rattle.expressions.proofs.Words.{node-whole}
-use Rattle.listing.proofs.Listing.{listing-parts, line-room, lines_to, lines_none, lines_more, listing-size}
+use Rattle.listing.proofs.Listing.{lines_to}
 use Rattle.listing.proofs.lines.put_listing.Given as goal
 
 abbrev pub invariant-loop-i : goal.invariant-loop-i

@@ -1,6 +1,5 @@
 -- `lines::put_name` meets its contract: each arm by the bytes of its name.
 use Rattle.listing.specs.Listing.{kind_name}
-use borrow.Author.Rules.{rules}
 use Rattle.listing.proofs.lines.put_name.Goals as goal
 
 pub returns-in-0 : goal.returns-in-0

@@ -2,7 +2,6 @@
 use native.Mathlib.Omega.{arith}
 use Rattle.expressions.proofs.KindLaws.{other-kind}
 use Rattle.listing.specs.Listing.{kind_name}
-use borrow.Author.Rules.{rules}
 use Rattle.listing.proofs.lines.put_operation.Goals as goal
 
 pub returns-in-3 : goal.returns-in-3

@@ -2,7 +2,6 @@ use native.Mathlib.Omega.{arith}
 use mathlib.Core.Path.{refl, sym}
 use Rattle.sets.specs.Members.{has, state_width}
 use Rattle.sets.proofs.Bits.{has-high}
-use borrow.Author.Rules.{rules}
 use Rattle.sets.proofs.StateSet.has.Goals as goal
 
 pub returns-then-state-lt-WIDTH : goal.returns-then-state-lt-WIDTH

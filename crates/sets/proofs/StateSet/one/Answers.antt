@@ -1,6 +1,5 @@
 use Rattle.sets.specs.Members.{state_width}
 use Rattle.sets.proofs.Bits.{one_shifted, one_none}
-use borrow.Author.Rules.{rules}
 use Rattle.sets.proofs.StateSet.one.Goals as goal
 
 pub returns-then-state-lt-WIDTH : goal.returns-then-state-lt-WIDTH

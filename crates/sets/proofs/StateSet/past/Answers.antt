@@ -1,7 +1,6 @@
 use native.Mathlib.Omega.{arith}
 use Rattle.sets.specs.Members.{state_width}
 use Rattle.sets.proofs.Membership.{past-count, past-wide}
-use borrow.Author.Rules.{rules}
 use mathlib.Core.Path.{sym}
 use Rattle.sets.proofs.StateSet.past.Goals as goal
 

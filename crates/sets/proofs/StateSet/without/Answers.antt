@@ -4,7 +4,6 @@ use lib.Bits.{bit_and, bit_xor}
 use native.Mathlib.Omega.{arith}
 use Rattle.sets.specs.Members.{state_width}
 use Rattle.sets.proofs.Bits.{shifted, without-cleared, without-none}
-use borrow.Author.Rules.{rules}
 use Rattle.sets.proofs.StateSet.without.Goals as goal
 
 pub returns-then-state-lt-WIDTH : goal.returns-then-state-lt-WIDTH

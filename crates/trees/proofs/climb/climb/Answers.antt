@@ -1,8 +1,7 @@
-use Prim.Native.Nat.{◌+◌, ◌-◌, ◌≤◌}
+use Prim.Native.Nat.{◌-◌}
 use mathlib.Core.Path.{◌≡◌, refl}
-use lib.ListN.{length, get_or, length-set}
-use Rattle.trees.proofs.Stacking.{Leaves, leaves_none, no_symbol, too_few, one_more, leaves_all}
-use borrow.Author.Rules.{rules}
+use lib.ListN.{get_or, length-set}
+use Rattle.trees.proofs.Stacking.{leaves_none, no_symbol, too_few, one_more, leaves_all}
 use native.Mathlib.Omega.{arith}
 use Rattle.trees.proofs.climb.climb.Goals as goal
 

@@ -1,9 +1,7 @@
-use Prim.Native.Nat.{◌+◌, ◌-◌, ◌≤◌}
-use mathlib.Core.Path.{◌≡◌, refl}
-use lib.ListN.{length, get_or, length-set}
-use Rattle.trees.proofs.Stacking.{Leaves, leaves_none, no_symbol, too_few, one_more, leaves_all}
-use borrow.Author.Rules.{rules}
-use native.Mathlib.Omega.{arith}
+use Prim.Native.Nat.{◌+◌, ◌≤◌}
+use mathlib.Core.Path.{◌≡◌}
+use lib.ListN.{length}
+use Rattle.trees.proofs.Stacking.{Leaves}
 use Rattle.trees.proofs.climb.climb.Given as goal
 
 abbrev pub invariant-loop-i : goal.invariant-loop-i

@@ -1,6 +1,5 @@
 use mathlib.Core.Path.{refl, sym, ◌∙◌}
 use native.Mathlib.Omega.{arith}
-use borrow.Author.Rules.{rules}
 use Rattle.automaton.specs.Answers.{held_by}
 use Rattle.trees.proofs.Values.{so-many-symbols}
 use Rattle.trees.proofs.climb.in_store.Goals as goal

@@ -1,7 +1,6 @@
 use Rattle.sets.specs.Members.{state_width}
 use Rattle.sets.proofs.Bits.{shifted}
 use Rattle.trees.proofs.Tabling.{entered-as}
-use borrow.Author.Rules.{rules}
 use native.Mathlib.Omega.{arith}
 use Rattle.trees.proofs.columns.enter.Goals as goal
 

@@ -2,7 +2,6 @@ use borrow.Author.Tests.{lt-ltb, le-ltb}
 use Rattle.sets.specs.Members.{state_width}
 use Rattle.sets.proofs.Bits.{shifted}
 use Rattle.trees.specs.Columns.{need_at}
-use borrow.Author.Rules.{rules}
 use native.Mathlib.Omega.{arith}
 use Rattle.trees.proofs.columns.needed.Goals as goal
 

@@ -1,15 +1,10 @@
-use Prim.Native.Nat.{ℕ, ◌-◌, ◌^◌, ◌<◌}
-use mathlib.Core.Bool.{true, false≢true}
-use mathlib.Core.Path.{◌≡◌, sym, ◌∙◌}
+use mathlib.Core.Bool.{false≢true}
+use mathlib.Core.Path.{sym, ◌∙◌}
 use lib.Bits.{or_lt}
-use Rattle.sets.specs.Members.{has, state_width}
+use Rattle.sets.specs.Members.{state_width}
 use Rattle.sets.proofs.Bits.{has-zero}
-use Rattle.automaton.specs.Held.{Held, Valid}
 use Rattle.automaton.specs.Answers.{held_by}
-use Rattle.trees.specs.Runs.{Productive}
-use Rattle.trees.specs.Columns.{Tabled}
 use Rattle.trees.proofs.Producing.{round-productive, round-all, grows}
-use borrow.Author.Rules.{rules}
 use native.Mathlib.Omega.{arith}
 use Rattle.trees.proofs.rounds.rounds.Goals as goal
 

@@ -1,8 +1,6 @@
-use Prim.Native.Nat.{◌≤◌, ◌-◌}
 use mathlib.Core.Path.{◌≡◌}
 use Rattle.automaton.specs.Held.{most_rows}
-use Rattle.trees.proofs.Scanning.{Sofar, scan-none, scan-more}
-use borrow.Author.Rules.{rules}
+use Rattle.trees.proofs.Scanning.{scan-none, scan-more}
 use native.Mathlib.Omega.{arith}
 use Rattle.trees.proofs.scan.scan.Goals as goal
 

@@ -1,9 +1,6 @@
 use Prim.Native.Nat.{◌≤◌, ◌-◌}
-use mathlib.Core.Path.{◌≡◌}
 use Rattle.automaton.specs.Held.{most_rows}
-use Rattle.trees.proofs.Scanning.{Sofar, scan-none, scan-more}
-use borrow.Author.Rules.{rules}
-use native.Mathlib.Omega.{arith}
+use Rattle.trees.proofs.Scanning.{Sofar}
 use Rattle.trees.proofs.scan.scan.Given as goal
 
 abbrev pub invariant-loop-i : goal.invariant-loop-i

@@ -1,6 +1,4 @@
-use Prim.Native.Nat.{◌-◌, ◌≤◌}
 use native.Mathlib.Omega.{arith}
-use borrow.Author.Rules.{rules}
 use Rattle.worked.proofs.Lent.{part}
 use Rattle.worked.proofs.cases.all.Goals as goal
 

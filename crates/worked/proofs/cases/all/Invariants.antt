@@ -1,8 +1,5 @@
 -- It goes through the cases. What is left of a division is below the divisor.
 use Prim.Native.Nat.{◌-◌, ◌≤◌}
-use native.Mathlib.Omega.{arith}
-use borrow.Author.Rules.{rules}
-use Rattle.worked.proofs.Lent.{part}
 use Rattle.worked.proofs.cases.all.Given as goal
 
 abbrev pub invariant-loop-i : goal.invariant-loop-i

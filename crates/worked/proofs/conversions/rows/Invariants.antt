@@ -1,6 +1,5 @@
 -- It goes through the places of the list.
 use Prim.Native.Nat.{◌-◌, ◌≤◌}
-use borrow.Author.Rules.{rules}
 use Rattle.worked.proofs.conversions.rows.Given as goal
 
 abbrev pub invariant-loop-i : goal.invariant-loop-i

@@ -1,6 +1,5 @@
 -- It stays within the bytes.
 use Prim.Native.Nat.{◌-◌, ◌≤◌}
-use borrow.Author.Rules.{rules}
 use Rattle.worked.proofs.say.bytes.Given as goal
 
 abbrev pub invariant-loop-i : goal.invariant-loop-i

@@ -1,6 +1,5 @@
 -- It stays within the words, and counts no more than it has passed.
 use Prim.Native.Nat.{◌-◌, ◌≤◌}
-use borrow.Author.Rules.{rules}
 use Rattle.worked.proofs.say.how_many.Given as goal
 
 abbrev pub invariant-loop-i : goal.invariant-loop-i

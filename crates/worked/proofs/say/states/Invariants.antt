@@ -1,6 +1,5 @@
 -- It goes through the sixteen states.
 use Prim.Native.Nat.{◌-◌, ◌≤◌}
-use borrow.Author.Rules.{rules}
 use Rattle.worked.proofs.say.states.Given as goal
 
 abbrev pub invariant-loop-q : goal.invariant-loop-q

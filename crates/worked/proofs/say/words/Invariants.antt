@@ -1,6 +1,5 @@
 -- It stays within the words.
 use Prim.Native.Nat.{◌-◌, ◌≤◌}
-use borrow.Author.Rules.{rules}
 use Rattle.worked.proofs.say.words.Given as goal
 
 abbrev pub invariant-loop-i : goal.invariant-loop-i

@@ -1,9 +1,5 @@
 -- It goes through the letters, and has passed no more texts than letters, but for one where there is a refusal.
 use Prim.Native.Nat.{◌+◌, ◌-◌, ◌≤◌}
-use mathlib.Core.Bool.{not}
-use lib.Dec.{eqb}
-use borrow.Author.Rules.{rules}
-use Rattle.worked.proofs.Small.{bool_small}
 use Rattle.worked.proofs.texts.write.Given as goal
 
 abbrev pub invariant-loop-i : goal.invariant-loop-i

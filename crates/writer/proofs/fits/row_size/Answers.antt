@@ -1,7 +1,6 @@
 use native.Mathlib.Omega.{arith}
 use mathlib.Core.Path.{◌≡◌, sym, ◌∙◌}
 use lib.ListN.{length}
-use borrow.Author.Tests.{not-true, not-false}
 use Rattle.writer.proofs.Fitting.{row-unknown, row-aimless, arity-small, row-sourceless, row_fits}
 use borrow.Author.Rules.{rules}
 use Rattle.writer.proofs.fits.row_size.Goals as goal

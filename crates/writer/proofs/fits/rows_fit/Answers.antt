@@ -1,9 +1,6 @@
 use native.Mathlib.Omega.{arith}
-use Prim.Native.Nat.{◌-◌}
 use mathlib.Core.List.{[]}
-use lib.ListN.{take}
-use Rattle.writer.proofs.Fitting.{RowsSoFit, rows-fit-start, rows-fit-bad, rows-fit-next, rows-fit-done}
-use borrow.Author.Rules.{rules}
+use Rattle.writer.proofs.Fitting.{rows-fit-start, rows-fit-bad, rows-fit-next, rows-fit-done}
 use Rattle.writer.proofs.fits.rows_fit.Goals as goal
 
 pub loop-i-init : goal.loop-i-init

@@ -1,9 +1,6 @@
-use native.Mathlib.Omega.{arith}
 use Prim.Native.Nat.{◌-◌}
-use mathlib.Core.List.{[]}
 use lib.ListN.{take}
-use Rattle.writer.proofs.Fitting.{RowsSoFit, rows-fit-start, rows-fit-bad, rows-fit-next, rows-fit-done}
-use borrow.Author.Rules.{rules}
+use Rattle.writer.proofs.Fitting.{RowsSoFit}
 use Rattle.writer.proofs.fits.rows_fit.Given as goal
 
 abbrev pub invariant-loop-i : goal.invariant-loop-i

@@ -1,5 +1,4 @@
 use Rattle.automaton.specs.File.{two_bytes, file_record, end_record}
-use borrow.Author.Rules.{rules}
 use Rattle.writer.proofs.puts.put_end.Goals as goal
 
 pub returns : goal.returns

@@ -1,7 +1,6 @@
 use native.Mathlib.Omega.{arith}
 use lib.ListN.{length-set}
 use Rattle.writer.proofs.Stores.{four-stores}
-use borrow.Author.Rules.{rules}
 use Rattle.writer.proofs.puts.put_frame.Goals as goal
 
 pub bounds-out-at-2 : goal.bounds-out-at-2

@@ -1,7 +1,6 @@
 use native.Mathlib.Omega.{arith}
 use lib.ListN.{length-set}
 use Rattle.automaton.specs.File.{two_bytes, file_record, head_record}
-use borrow.Author.Rules.{rules}
 use Rattle.writer.proofs.puts.put_head.Goals as goal
 
 pub bounds-out-5 : goal.bounds-out-5

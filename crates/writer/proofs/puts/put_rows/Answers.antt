@@ -1,9 +1,6 @@
 use native.Mathlib.Omega.{arith}
-use Prim.Native.Nat.{◌-◌}
 use mathlib.Core.List.{[]}
-use lib.ListN.{take}
-use Rattle.writer.proofs.Putting.{RowsSoPut, rows-put-start, row-there, rows-put-next, rows-put-done}
-use borrow.Author.Rules.{rules}
+use Rattle.writer.proofs.Putting.{rows-put-start, row-there, rows-put-next, rows-put-done}
 use Rattle.writer.proofs.puts.put_rows.Goals as goal
 
 pub loop-i-init : goal.loop-i-init

@@ -1,12 +1,10 @@
 use native.Mathlib.Omega.{arith}
-use Prim.Native.Nat.{◌≤◌, ◌-◌, ℕ, ◌+◌}
+use Prim.Native.Nat.{ℕ, ◌+◌}
 use mathlib.Core.Path.{◌≡◌, refl, ap, ◌∙◌}
 use mathlib.Core.List.{List}
-use lib.ListN.{length, set, take, get_or, length-set}
-use lib.Seq.{sets}
+use lib.ListN.{set, get_or, length-set}
 use native.Mathlib.Nat.{le_antisymm}
 use Rattle.writer.proofs.Stores.{sources-put-next}
-use borrow.Author.Rules.{rules}
 use Rattle.writer.proofs.puts.put_sources.Goals as goal
 
 pub loop-i-init : goal.loop-i-init

@@ -1,12 +1,7 @@
-use native.Mathlib.Omega.{arith}
-use Prim.Native.Nat.{◌≤◌, ◌-◌, ℕ, ◌+◌}
-use mathlib.Core.Path.{◌≡◌, refl, ap, ◌∙◌}
-use mathlib.Core.List.{List}
-use lib.ListN.{length, set, take, get_or, length-set}
+use Prim.Native.Nat.{◌≤◌, ◌-◌}
+use mathlib.Core.Path.{◌≡◌}
+use lib.ListN.{length, take}
 use lib.Seq.{sets}
-use native.Mathlib.Nat.{le_antisymm}
-use Rattle.writer.proofs.Stores.{sources-put-next}
-use borrow.Author.Rules.{rules}
 use Rattle.writer.proofs.puts.put_sources.Given as goal
 
 abbrev pub invariant-loop-i : goal.invariant-loop-i

@@ -1,7 +1,6 @@
 use mathlib.Core.List.{[], ◌∷◌}
 use Rattle.automaton.specs.File.{two_bytes, file_record, symbol_record}
 use Rattle.buffers.proofs.Bytes.{sets-append}
-use borrow.Author.Rules.{rules}
 use Rattle.writer.proofs.puts.put_symbol.Goals as goal
 
 pub returns : goal.returns

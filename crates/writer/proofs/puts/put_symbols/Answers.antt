@@ -1,13 +1,12 @@
 use native.Mathlib.Omega.{arith}
-use Prim.Native.Nat.{◌≤◌, ◌-◌, ℕ, ◌+◌, ◌*◌}
+use Prim.Native.Nat.{ℕ, ◌+◌, ◌*◌}
 use mathlib.Core.Path.{◌≡◌, refl, ap, ◌∙◌}
 use mathlib.Core.List.{List}
-use lib.ListN.{length, take, get_or}
+use lib.ListN.{get_or}
 use lib.Seq.{sets}
 use native.Mathlib.Nat.{le_antisymm}
 use Rattle.automaton.specs.File.{each, symbol_record}
 use Rattle.writer.proofs.Stores.{symbols-put-next}
-use borrow.Author.Rules.{rules}
 use Rattle.writer.proofs.puts.put_symbols.Goals as goal
 
 pub loop-i-init : goal.loop-i-init

@@ -1,13 +1,8 @@
-use native.Mathlib.Omega.{arith}
-use Prim.Native.Nat.{◌≤◌, ◌-◌, ℕ, ◌+◌, ◌*◌}
-use mathlib.Core.Path.{◌≡◌, refl, ap, ◌∙◌}
-use mathlib.Core.List.{List}
-use lib.ListN.{length, take, get_or}
+use Prim.Native.Nat.{◌≤◌, ◌-◌}
+use mathlib.Core.Path.{◌≡◌}
+use lib.ListN.{length, take}
 use lib.Seq.{sets}
-use native.Mathlib.Nat.{le_antisymm}
 use Rattle.automaton.specs.File.{each, symbol_record}
-use Rattle.writer.proofs.Stores.{symbols-put-next}
-use borrow.Author.Rules.{rules}
 use Rattle.writer.proofs.puts.put_symbols.Given as goal
 
 abbrev pub invariant-loop-i : goal.invariant-loop-i
