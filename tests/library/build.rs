@@ -12,7 +12,7 @@ fn main() {
         let archive = folder.join(format!("lib{name}.a"));
         println!("cargo:rerun-if-changed={}", archive.display());
         if !archive.exists() {
-            panic!("\n\nthe proved library is not there: run `rt staticlib {name}` at the repository's root first\n\n");
+            panic!("\n\nthe proved library is not there: run `bin/build {name}` at the repository's root first\n\n");
         }
         println!("cargo:rustc-link-lib=static={name}");
     }

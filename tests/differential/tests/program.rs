@@ -13,7 +13,7 @@ const CASES: u64 = 1_000;
 
 fn program() -> PathBuf {
     let path = Path::new(env!("CARGO_MANIFEST_DIR")).join("../../target/bin/convert");
-    assert!(path.exists(), "the program is not there: run `rt check convert` at the repository's root first");
+    assert!(path.exists(), "the program is not there: run `bin/build convert` at the repository's root first");
     path
 }
 
