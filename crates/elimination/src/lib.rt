@@ -29,7 +29,7 @@ pub struct ListRow {
 
 // What `convert_partly` answers: the number of nodes, the number of rows, and the list; places past the rows are 0.
 #[repr(C)]
-#[derive(Drop)]
+#[derive(Clone, Copy)]
 pub struct Partly {
     pub refusal: Refusal,
     pub nodes: usize,
@@ -39,7 +39,7 @@ pub struct Partly {
 
 // What `convert` answers: the number of nodes, and the answer's node.
 #[repr(C)]
-#[derive(Drop)]
+#[derive(Clone, Copy)]
 pub struct Wholly {
     pub refusal: Refusal,
     pub nodes: usize,

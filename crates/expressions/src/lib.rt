@@ -43,7 +43,7 @@ pub struct Node {
 
 // What `measure` answers: the written-out size of the answer's expression, 0 on a refusal.
 #[repr(C)]
-#[derive(Drop)]
+#[derive(Clone, Copy)]
 pub struct Measured {
     pub refusal: Refusal,
     pub size: u32,

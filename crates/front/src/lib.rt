@@ -22,7 +22,7 @@ pub const TEXT_BYTES: usize = LONGEST_LINE * MOST_MADE + LONGEST_ANSWER;
 
 // What `printed` answers: 0 and the length of the text, or 6 and 0. A file's refusal is no number here: it stands in the text.
 #[repr(C)]
-#[derive(Drop)]
+#[derive(Clone, Copy)]
 pub struct Printing {
     pub refusal: Refusal,
     pub length: usize,

@@ -14,7 +14,7 @@ pub const LONGEST_ANSWER: usize = 12;
 
 // What `list` answers: the listing's length, 0 on a refusal.
 #[repr(C)]
-#[derive(Drop)]
+#[derive(Clone, Copy)]
 pub struct Listed {
     pub refusal: Refusal,
     pub length: usize,

@@ -13,7 +13,7 @@ mod scan;
 
 // What `run` answers: the reached states, and whether a final state is among them. On a refusal the set is empty.
 #[repr(C)]
-#[derive(Drop)]
+#[derive(Clone, Copy)]
 pub struct ReachedStates {
     pub refusal: Refusal,
     pub states: StateSet,
@@ -22,7 +22,7 @@ pub struct ReachedStates {
 
 // What `productive` answers. On a refusal the set is empty.
 #[repr(C)]
-#[derive(Drop)]
+#[derive(Clone, Copy)]
 pub struct ProductiveStates {
     pub refusal: Refusal,
     pub states: StateSet,

@@ -10,7 +10,7 @@ use automaton::{Automaton, Refusal};
 
 // What `write` answers: the file's length, 0 on a refusal.
 #[repr(C)]
-#[derive(Drop)]
+#[derive(Clone, Copy)]
 pub struct Writing {
     pub refusal: Refusal,
     pub length: usize,
