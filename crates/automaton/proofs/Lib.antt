@@ -2,3 +2,4 @@ pub mod Finding
 pub mod Files
 pub mod Values
 pub mod Handing
+pub mod Refusing

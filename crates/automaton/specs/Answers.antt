@@ -1,10 +1,11 @@
 -- The value of an automaton, what it says, and what `read` returns for a file's bytes [3.17 to 3.19].
-use Rattle.std.specs.Prelude.{ℕ, List, map, length, get_or, replicate}
+use Rattle.std.specs.Prelude.{ℕ, List, map, length, get_or, replicate, Result, Ok, Err}
 use Rattle.automaton.specs.declared.Row.{Row}
 use Rattle.automaton.specs.declared.Automaton.{Automaton}
 use Rattle.automaton.specs.declared.Reading.{Reading}
+use Rattle.automaton.specs.declared.Refused.{Refused}
 use Rattle.automaton.specs.Held.{Rule, Held, most_symbols, most_arity, most_rows}
-use Rattle.automaton.specs.Refusals.{no_refusal, fault_refusal}
+use Rattle.automaton.specs.Refusals.{refusal, no_refusal, number_of, fault_refusal}
 use Rattle.automaton.specs.Checks.{Verdict, holds, fault, verdict}
 use Rattle.ground.specs.Lists.{filled, firsts}
 
@@ -47,6 +48,11 @@ reading_of (fault number offset) = record { refusal = fault_refusal number offse
 -- what `read` returns [3.17]
 unfoldable pub read_answer : List ℕ → Reading
 read_answer file = reading_of (verdict file)
+
+-- the numbers and values of a result of `read` [3.17, 12.13]
+abbrev pub read_of : Result Automaton Refused → Reading
+read_of (Ok value) = record { refusal = no_refusal; automaton = value }
+read_of (Err reason) = record { refusal = refusal (number_of reason); automaton = no_automaton }
 
 -- ---- what a value says: unused places are not looked at [3.19]
 

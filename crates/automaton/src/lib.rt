@@ -5,8 +5,8 @@ mod reader;
 
 ghost use Rattle.std.specs.Prelude.{◌≡◌, replicate};
 ghost use Rattle.automaton.specs.Held.{most_symbols, most_rows};
-ghost use Rattle.automaton.specs.Refusals.{refusal};
-ghost use Rattle.automaton.specs.Answers.{unused_row, no_automaton, read_answer};
+ghost use Rattle.automaton.specs.Refusals.{refusal, refusal_of};
+ghost use Rattle.automaton.specs.Answers.{unused_row, no_automaton, read_answer, read_of};
 
 use sets::StateSet;
 
@@ -25,31 +25,47 @@ pub const SOURCE_PLACES: usize = MOST_ARITY as usize;
 
 pub const ROW_PLACES: usize = MOST_ROWS as usize;
 
-// A refusal by its number; 0 is done.
+// Why a call is refused: the reasons of all rooms, with their numbers.
+#[derive(Clone, Copy, Debug, PartialEq, Eq)]
+pub enum Refused {
+    // A file breaks off.
+    BreaksOff = 1,
+    // A record's kind does not exist, or may not stand there.
+    Kind = 2,
+    // A record's length is not right.
+    Length = 3,
+    // A number goes beyond its limit, or a value that no file can hold.
+    Limit = 4,
+    // Something follows the end record.
+    PastEnd = 5,
+    // What was lent to be filled is too small.
+    Short = 6,
+    // The words are not one tree.
+    NoTree = 7,
+    // The words are not a sound table, or a node fits none.
+    Unsound = 8,
+    // More steps are asked than there are states.
+    TooFar = 9,
+}
+
+// A refusal as C has it: its number, or 0 for done.
 #[repr(C)]
 #[derive(Clone, Copy)]
 pub struct Refusal {
     pub number: u8,
 }
 
-impl Refusal {
-    // No refusal: done.
-    pub const DONE: Refusal = Refusal { number: 0 };
+impl<T: Drop> From<Result<T, Refused>> for Refusal {
+    ghost from_gives = { λ r refusal. refusal ≡ refusal_of r };
 
-    // A value that no file can hold.
-    pub const UNFIT: Refusal = Refusal { number: 4 };
-
-    // What was lent to be filled is too small.
-    pub const SHORT: Refusal = Refusal { number: 6 };
-
-    // The words are not one tree.
-    pub const NO_TREE: Refusal = Refusal { number: 7 };
-
-    // The words are not a sound table, or a node fits none.
-    pub const UNSOUND: Refusal = Refusal { number: 8 };
-
-    // More steps are asked than there are states.
-    pub const TOO_FAR: Refusal = Refusal { number: 9 };
+    fn from(r: Result<T, Refused>) -> Refusal {
+        match r {
+            Ok(_) => Refusal { number: 0 },
+            Err(reason) => Refusal {
+                number: reason as u8,
+            },
+        }
+    }
 }
 
 // A row: symbol, target state, and the source states from the left; places past the symbol's arity are not used.
@@ -100,7 +116,7 @@ fn no_arities() -> [u8; SYMBOL_PLACES]
     [0; SYMBOL_PLACES]
 }
 
-fn refused(number: u8) -> Reading
+fn no_reading(number: u8) -> Reading
     ensures { result ≡ record { refusal = refusal number; automaton = no_automaton } }
 {
     let arities = no_arities();
@@ -118,26 +134,41 @@ fn refused(number: u8) -> Reading
     }
 }
 
+// The automaton that a file holds, or the reason for which its checks refuse it.
+pub fn read(file: &[u8]) -> Result<Automaton, Refused>
+    ensures { read_of result ≡ read_answer file.now }
+{
+    let found = found_in(file);
+    match found.refusal.number {
+        0 => Ok(found.automaton),
+        1 => Err(Refused::BreaksOff),
+        2 => Err(Refused::Kind),
+        3 => Err(Refused::Length),
+        4 => Err(Refused::Limit),
+        _ => Err(Refused::PastEnd),
+    }
+}
+
 // The automaton that a file holds, or the refusal that its checks come to: one pass over the bytes, and the value made once.
-pub fn read(file: &[u8]) -> Reading
+fn found_in(file: &[u8]) -> Reading
     ensures { result ≡ read_answer file.now }
 {
     let head = reader::head_of(file);
     if head.fault != 0 {
-        return refused(head.fault);
+        return no_reading(head.fault);
     }
     let known = reader::symbols_of(file);
     if known.fault != 0 {
-        return refused(known.fault);
+        return no_reading(known.fault);
     }
     let arities = known.arities;
     let rules = reader::rows_of(file, known.at, head.states, known.count, &arities);
     if rules.fault != 0 {
-        return refused(rules.fault);
+        return no_reading(rules.fault);
     }
     let rows = rules.rows;
     Reading {
-        refusal: Refusal::DONE,
+        refusal: Refusal { number: 0 },
         automaton: Automaton {
             states: head.states,
             finals: StateSet(head.finals),

@@ -1,7 +1,8 @@
 -- What `is_sound` and `measure` promise, of what they are lent and answer.
-use Rattle.std.specs.Prelude.{ℕ, ◌≤◌, ◌<◌, ◌≡◌, Bool, List, ◌++◌, length, drop}
+use Rattle.std.specs.Prelude.{ℕ, ◌≤◌, ◌<◌, ◌≡◌, Bool, List, ◌++◌, length, drop, Result, Ok, Err}
 use Rattle.ground.specs.Decides.{Decides}
-use Rattle.automaton.specs.Refusals.{refusal}
+use Rattle.automaton.specs.declared.Refused.{Refused}
+use Rattle.automaton.specs.Refusals.{refusal, number_of}
 use Rattle.expressions.specs.declared.Measured.{Measured}
 use Rattle.expressions.specs.Words.{table_of}
 use Rattle.expressions.specs.Unfolding.{expr_at}
@@ -15,6 +16,11 @@ SoundAnswer words count answer result = Decides (Sound words count answer) resul
 -- the answer of `measure` with this refusal and this size
 abbrev pub measured : ℕ → ℕ → Measured
 measured number size = record { refusal = refusal number; size = size }
+
+-- the numbers of a result of `measure` [9.3, 12.13]
+abbrev pub measured_of : Result ℕ Refused → Measured
+measured_of (Ok size) = measured 0 size
+measured_of (Err reason) = measured (number_of reason) 0
 
 -- what `measure` promises, of the words, the scratch before and after, and its result: 8 for words that are not sound, then 6 for too little scratch, and nothing changes; else the scratch words begin with the sizes of the nodes, and that of the answer is returned [9.3]
 pub record Measures (words : List ℕ) (count answer : ℕ) (before after : List ℕ) (result : Measured) : Type 0 where

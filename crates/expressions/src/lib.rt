@@ -5,9 +5,10 @@ ghost use Rattle.std.specs.Prelude.{◌≡◌};
 ghost use Rattle.expressions.specs.Nodes.{child_count, shape_of};
 ghost use Rattle.expressions.specs.Words.{node_in};
 ghost use Rattle.expressions.specs.Making.{Makes};
-ghost use Rattle.expressions.specs.Answers.{SoundAnswer, Measures};
+ghost use Rattle.automaton.specs.Refusals.{refusal_of};
+ghost use Rattle.expressions.specs.Answers.{SoundAnswer, Measures, measured_of};
 
-use automaton::Refusal;
+use automaton::{Refusal, Refused};
 
 mod layout;
 mod nodes;
@@ -41,12 +42,23 @@ pub struct Node {
     pub opens: u32,
 }
 
-// What `measure` answers: the written-out size of the answer's expression, 0 on a refusal.
+// The written-out size of the answer's expression as C has it, 0 on a refusal.
 #[repr(C)]
 #[derive(Clone, Copy)]
 pub struct Measured {
     pub refusal: Refusal,
     pub size: u32,
+}
+
+impl From<Result<u32, Refused>> for Measured {
+    ghost from_gives = { λ r measured. measured ≡ measured_of r };
+
+    fn from(r: Result<u32, Refused>) -> Measured {
+        Measured {
+            refusal: r.into(),
+            size: r.unwrap_or(0),
+        }
+    }
 }
 
 // The node with every number 0.
@@ -115,8 +127,8 @@ pub fn make(
     first: u32,
     second: u32,
     third: u32,
-) -> Refusal
-    ensures { Makes words.old count (shape_of kind label first second third) words.new result }
+) -> Result<(), Refused>
+    ensures { Makes words.old count (shape_of kind label first second third) words.new (refusal_of result) }
 {
     let shape = Shape {
         kind,
@@ -126,37 +138,28 @@ pub fn make(
         third,
     };
     if !nodes::shape_fits(count, shape) {
-        return Refusal::UNSOUND;
+        return Err(Refused::Unsound);
     }
     if MOST_NODES <= count {
-        return Refusal::SHORT;
+        return Err(Refused::Short);
     }
     if words.len() < NODE_WIDTH * count + NODE_WIDTH {
-        return Refusal::SHORT;
+        return Err(Refused::Short);
     }
     nodes::put_made(words, count, shape);
-    Refusal::DONE
+    Ok(())
 }
 
 // The written-out sizes of the nodes, into the scratch words, and the answer's.
-pub fn measure(words: &[u32], count: usize, answer: usize, scratch: &mut [u32]) -> Measured
-    ensures { Measures words.now count answer scratch.old scratch.new result }
+pub fn measure(words: &[u32], count: usize, answer: usize, scratch: &mut [u32]) -> Result<u32, Refused>
+    ensures { Measures words.now count answer scratch.old scratch.new (measured_of result) }
 {
     if !is_sound(words, count, answer) {
-        return Measured {
-            refusal: Refusal::UNSOUND,
-            size: 0,
-        };
+        return Err(Refused::Unsound);
     }
     if scratch.len() < count {
-        return Measured {
-            refusal: Refusal::SHORT,
-            size: 0,
-        };
+        return Err(Refused::Short);
     }
     sizes::fill(words, count, scratch);
-    Measured {
-        refusal: Refusal::DONE,
-        size: scratch[answer],
-    }
+    Ok(scratch[answer])
 }

@@ -8,6 +8,7 @@ ghost use Rattle.expressions.specs.Words.{node_width, read_node, table_of, put_n
 ghost use Rattle.expressions.specs.Soundness.{Labelled, Fits, union_all, cat_opens, opens_in, completed, SoundNode, SoundNodes, most_nodes};
 
 use crate::{ARITY_STEP, Node, Shape, layout};
+use ground::Wide;
 use sets::StateSet;
 
 const MOST_STATES: u32 = automaton::MOST_STATES as u32;
@@ -95,7 +96,7 @@ fn union_opens(words: &[u32], shape: Shape) -> u32
     let n = shape.child_count();
     let last = joined(words, 2, n, shape.third, StateSet::empty());
     let later = joined(words, 1, n, shape.second, last);
-    ground::wide16(joined(words, 0, n, shape.first, later).0)
+    joined(words, 0, n, shape.first, later).0.wide()
 }
 
 // The open set of a concatenation over q.
@@ -105,7 +106,7 @@ fn cat_opens(q: u32, left: u32, right: u32) -> u32
 {
     let set = StateSet::of_word(left);
     if set.has(q) {
-        return ground::wide16(set.without(q).union(StateSet::of_word(right)).0);
+        return set.without(q).union(StateSet::of_word(right)).0.wide();
     }
     left
 }
@@ -114,7 +115,7 @@ fn cat_opens(q: u32, left: u32, right: u32) -> u32
 fn iter_opens(q: u32, child: u32) -> u32
     ensures { result ≡ union state_width child (one_set state_width q) }
 {
-    ground::wide16(StateSet::of_word(child).union(StateSet::one(q)).0)
+    StateSet::of_word(child).union(StateSet::one(q)).0.wide()
 }
 
 // The open set of a node, by the open words of its children.
@@ -127,7 +128,7 @@ fn open_of(words: &[u32], shape: Shape) -> u32
     let label = shape.label;
     match kind {
         0 => 0,
-        1 => ground::wide16(StateSet::one(label).0),
+        1 => StateSet::one(label).0.wide(),
         2 => union_opens(words, shape),
         3 => union_opens(words, shape),
         4 => cat_opens(

@@ -1,25 +1,38 @@
 // The ground under every room: numbers made wide. The laws of lists, of tests and of decisions stand in proofs/.
 #![tactic(auto)]
 
+ghost use Rattle.std.specs.Prelude.{ℕ};
 ghost use Rattle.ground.specs.Promises.{IsIndex, IsWidened};
 
-// A byte as an index.
+// A byte as an index. It says more than widening does: that the index is a byte's.
 pub fn index(byte: u8) -> usize
     ensures { IsIndex byte result }
 {
-    byte as usize
+    usize::from(byte)
 }
 
-// A byte as a word.
-pub fn wide(byte: u8) -> u32
-    ensures { IsWidened byte result }
-{
-    byte as u32
+// A number that fits a word.
+pub trait Wide {
+    // The number that a value is.
+    ghost number: { Self → ℕ };
+
+    // The same number as a word.
+    fn wide(self) -> u32
+        ensures { IsWidened (number self) result };
 }
 
-// A number of sixteen bits as a word.
-pub fn wide16(number: u16) -> u32
-    ensures { IsWidened number result }
-{
-    number as u32
+impl Wide for u8 {
+    ghost number = { λ byte. byte };
+
+    fn wide(self) -> u32 {
+        self.into()
+    }
+}
+
+impl Wide for u16 {
+    ghost number = { λ number. number };
+
+    fn wide(self) -> u32 {
+        u32::from(self)
+    }
 }

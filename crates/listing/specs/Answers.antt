@@ -1,6 +1,7 @@
 -- What `list` promises, of what it is lent and answers.
-use Rattle.std.specs.Prelude.{ℕ, ◌≤◌, ◌<◌, ◌≡◌, List, ◌++◌, length, drop}
-use Rattle.automaton.specs.Refusals.{refusal}
+use Rattle.std.specs.Prelude.{ℕ, ◌≤◌, ◌<◌, ◌≡◌, List, ◌++◌, length, drop, Result, Ok, Err}
+use Rattle.automaton.specs.declared.Refused.{Refused}
+use Rattle.automaton.specs.Refusals.{refusal, number_of}
 use Rattle.expressions.specs.Words.{table_of}
 use Rattle.expressions.specs.Soundness.{Sound}
 use Rattle.listing.specs.declared.Listed.{Listed}
@@ -9,6 +10,11 @@ use Rattle.listing.specs.Listing.{plain_label, listing}
 -- the answer of `list` with this refusal and this length
 abbrev pub listed : ℕ → ℕ → Listed
 listed number size = record { refusal = refusal number; length = size }
+
+-- the numbers of a result of `list` [9.8, 12.13]
+abbrev pub listed_of : Result ℕ Refused → Listed
+listed_of (Ok size) = listed 0 size
+listed_of (Err reason) = listed (number_of reason) 0
 
 -- the listing of the first so many nodes of the words, with labels as numbers [9.4] to [9.7]
 unfoldable pub listing_of : List ℕ → ℕ → ℕ → List ℕ

@@ -1,9 +1,10 @@
 // The listing of a node table: a line for each node, and one that names the answer.
 #![tactic(auto)]
 
-ghost use Rattle.listing.specs.Answers.{Lists};
+ghost use Rattle.std.specs.Prelude.{◌≡◌};
+ghost use Rattle.listing.specs.Answers.{Lists, listed_of};
 
-use automaton::Refusal;
+use automaton::{Refusal, Refused};
 
 mod lines;
 
@@ -12,7 +13,7 @@ pub const LONGEST_LINE: usize = 30;
 
 pub const LONGEST_ANSWER: usize = 12;
 
-// What `list` answers: the listing's length, 0 on a refusal.
+// The listing's length as C has it, 0 on a refusal.
 #[repr(C)]
 #[derive(Clone, Copy)]
 pub struct Listed {
@@ -20,25 +21,26 @@ pub struct Listed {
     pub length: usize,
 }
 
-// The listing of the table, into the bytes.
-pub fn list(words: &[u32], count: usize, answer: usize, out: &mut [u8]) -> Listed
-    ensures { Lists words.now count answer out.old out.new result }
+impl From<Result<usize, Refused>> for Listed {
+    ghost from_gives = { λ r given. given ≡ listed_of r };
+
+    fn from(r: Result<usize, Refused>) -> Listed {
+        Listed {
+            refusal: r.into(),
+            length: r.unwrap_or(0),
+        }
+    }
+}
+
+// The listing of the table, into the bytes, and its length.
+pub fn list(words: &[u32], count: usize, answer: usize, out: &mut [u8]) -> Result<usize, Refused>
+    ensures { Lists words.now count answer out.old out.new (listed_of result) }
 {
     if !expressions::is_sound(words, count, answer) {
-        return Listed {
-            refusal: Refusal::UNSOUND,
-            length: 0,
-        };
+        return Err(Refused::Unsound);
     }
     if !lines::fits_in(words, count, answer, out.len()) {
-        return Listed {
-            refusal: Refusal::SHORT,
-            length: 0,
-        };
+        return Err(Refused::Short);
     }
-    let length = lines::put_listing(words, count, answer, out);
-    Listed {
-        refusal: Refusal::DONE,
-        length,
-    }
+    Ok(lines::put_listing(words, count, answer, out))
 }

@@ -3,14 +3,14 @@ ghost use Rattle.std.specs.Prelude.{◌≡◌, ◌+◌, ◌<◌, ◌≤◌, leng
 ghost use Rattle.automaton.specs.Held.{Valid, most_symbols};
 ghost use Rattle.automaton.specs.Answers.{held_by};
 ghost use Rattle.ground.specs.Lists.{firsts};
-ghost use Rattle.trees.specs.Promises.{no_run};
+ghost use Rattle.trees.specs.Promises.{run_of};
 ghost use Rattle.trees.specs.Columns.{table_places, SetOver};
 ghost use Rattle.trees.specs.Piles.{pile_of, trees_answer, pile_answer, Climbed, words_answer};
 
-use crate::ReachedStates;
+use crate::Reached;
 use crate::columns::{LEAVES, table};
 use crate::scan::{at, scan};
-use automaton::{Automaton, Refusal, SYMBOL_PLACES};
+use automaton::{Automaton, Refused, SYMBOL_PLACES};
 use sets::StateSet;
 
 // The places of the store for a small tree.
@@ -19,29 +19,17 @@ const SMALL: usize = 64;
 // The most symbols that a tree may have, and the places of the store for any tree: a pile never holds more sets than the tree has symbols.
 const MOST_WORDS: usize = 4096;
 
-// A refusal: the set is empty.
-pub fn refused(refusal: Refusal) -> ReachedStates
-    ensures { result ≡ no_run refusal }
-{
-    ReachedStates {
-        refusal,
-        states: StateSet::EMPTY,
-        yes: false,
-    }
-}
-
 // The run of words that leave so many trees, the last of which reaches this set: they are one tree exactly where one is left.
-fn reached(finals: StateSet, trees: usize, set: u16) -> ReachedStates
-    ensures { result ≡ trees_answer finals.0 trees set }
+fn reached(finals: StateSet, trees: usize, set: u16) -> Result<Reached, Refused>
+    ensures { run_of result ≡ trees_answer finals.0 trees set }
 {
     if trees != 1 {
-        return refused(Refusal::NO_TREE);
+        return Err(Refused::NoTree);
     }
-    ReachedStates {
-        refusal: Refusal::DONE,
+    Ok(Reached {
         states: StateSet(set),
         yes: (set & finals.0) != 0,
-    }
+    })
 }
 
 // The set that a symbol reaches. Those of its subtrees stand on the pile from `base` on, the first on top.
@@ -95,11 +83,11 @@ fn climb(
 }
 
 // The run of the words, with the pile in lent places.
-fn in_store(a: Automaton, words: &[u16], pile: &mut [u16]) -> ReachedStates
+fn in_store(a: Automaton, words: &[u16], pile: &mut [u16]) -> Result<Reached, Refused>
     requires valid { Valid (held_by a) }
     requires words_in_bounds { length words.now ≤ length pile.old }
     requires in_bounds { 1 ≤ length pile.old }
-    ensures { result ≡ pile_answer (held_by a) (pile_of (held_by a) words.now) }
+    ensures { run_of result ≡ pile_answer (held_by a) (pile_of (held_by a) words.now) }
 {
     let t = table(a);
     let arities = a.arities;
@@ -108,9 +96,9 @@ fn in_store(a: Automaton, words: &[u16], pile: &mut [u16]) -> ReachedStates
 }
 
 // The answer for any words. For a small tree the store is small: the less there is, the less is cleared.
-pub fn answer(a: Automaton, words: &[u16]) -> ReachedStates
+pub fn answer(a: Automaton, words: &[u16]) -> Result<Reached, Refused>
     requires { Valid (held_by a) }
-    ensures { result ≡ words_answer (held_by a) words.now }
+    ensures { run_of result ≡ words_answer (held_by a) words.now }
 {
     let count = words.len();
     if count <= SMALL {
@@ -121,5 +109,5 @@ pub fn answer(a: Automaton, words: &[u16]) -> ReachedStates
         let mut pile = [0u16; MOST_WORDS];
         return in_store(a, words, &mut pile);
     }
-    refused(Refusal::NO_TREE)
+    Err(Refused::NoTree)
 }

@@ -1,9 +1,10 @@
 // Running a tree through an automaton, and its productive states.
 #![tactic(auto)]
 
-ghost use Rattle.trees.specs.Promises.{RunPromise, ProductivePromise};
+ghost use Rattle.std.specs.Prelude.{◌≡◌};
+ghost use Rattle.trees.specs.Promises.{RunPromise, ProductivePromise, run_of, states_of};
 
-use automaton::Refusal;
+use automaton::{Refusal, Refused};
 use sets::StateSet;
 
 mod climb;
@@ -11,7 +12,14 @@ mod columns;
 mod rounds;
 mod scan;
 
-// What `run` answers: the reached states, and whether a final state is among them. On a refusal the set is empty.
+// What a run reaches: the states, and whether a final one is among them.
+#[derive(Clone, Copy)]
+pub struct Reached {
+    pub states: StateSet,
+    pub yes: bool,
+}
+
+// The same as C has it: on a refusal the set is empty, and the yes is a no.
 #[repr(C)]
 #[derive(Clone, Copy)]
 pub struct ReachedStates {
@@ -20,7 +28,23 @@ pub struct ReachedStates {
     pub yes: bool,
 }
 
-// What `productive` answers. On a refusal the set is empty.
+impl From<Result<Reached, Refused>> for ReachedStates {
+    ghost from_gives = { λ r given. given ≡ run_of r };
+
+    fn from(r: Result<Reached, Refused>) -> ReachedStates {
+        let Reached { states, yes } = r.unwrap_or(Reached {
+            states: StateSet::EMPTY,
+            yes: false,
+        });
+        ReachedStates {
+            refusal: r.into(),
+            states,
+            yes,
+        }
+    }
+}
+
+// The productive states as C has them: on a refusal the set is empty.
 #[repr(C)]
 #[derive(Clone, Copy)]
 pub struct ProductiveStates {
@@ -28,24 +52,28 @@ pub struct ProductiveStates {
     pub states: StateSet,
 }
 
-// The run of the tree that the words are, through the file's automaton.
-pub fn run(file: &[u8], words: &[u16]) -> ReachedStates
-    ensures { RunPromise file.now words.now result }
-{
-    let reading = automaton::read(file);
-    if reading.refusal.number != 0 {
-        return climb::refused(reading.refusal);
+impl From<Result<StateSet, Refused>> for ProductiveStates {
+    ghost from_gives = { λ r given. given ≡ states_of r };
+
+    fn from(r: Result<StateSet, Refused>) -> ProductiveStates {
+        ProductiveStates {
+            refusal: r.into(),
+            states: r.unwrap_or(StateSet::EMPTY),
+        }
     }
-    climb::answer(reading.automaton, words)
+}
+
+// The run of the tree that the words are, through the file's automaton.
+pub fn run(file: &[u8], words: &[u16]) -> Result<Reached, Refused>
+    ensures { RunPromise file.now words.now (run_of result) }
+{
+    climb::answer(automaton::read(file)?, words)
 }
 
 // The productive states of the file's automaton.
-pub fn productive(file: &[u8]) -> ProductiveStates
-    ensures { ProductivePromise file.now result }
+pub fn productive(file: &[u8]) -> Result<StateSet, Refused>
+    ensures { ProductivePromise file.now (states_of result) }
 {
-    let reading = automaton::read(file);
-    if reading.refusal.number != 0 {
-        return rounds::refused(reading.refusal);
-    }
-    rounds::answer(reading.automaton)
+    let value = automaton::read(file)?;
+    Ok(StateSet(rounds::rounds(value)))
 }

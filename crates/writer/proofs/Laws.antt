@@ -27,7 +27,6 @@ use Rattle.automaton.specs.Refusals.{no_refusal}
 module _ (value : Automaton) (before after : List ℕ) (answer : Writing) (written : Written value before after answer) where
   -- an answer of 0 says that the file stands in the buffer
   pub written-file : answer.refusal.number ≡ 0 → Valid (held_by value) × ((answer.length ≡ length (file_of (held_by value))) × (after ≡ file_of (held_by value) ++ drop (length (file_of (held_by value))) before))
-  unfolding writing
   written-file z = go (dec-valid (held_by value))
     where
       go : Dec (Valid (held_by value)) → Valid (held_by value) × ((answer.length ≡ length (file_of (held_by value))) × (after ≡ file_of (held_by value) ++ drop (length (file_of (held_by value))) before))

@@ -13,7 +13,7 @@ use Rattle.automaton.specs.Held.{Held, ValidRule, Valid}
 use Rattle.ground.specs.Lists.{All, filled, firsts}
 use Rattle.automaton.specs.File.{head_record, symbol_record, row_record, end_record, each, file_of}
 use Rattle.automaton.specs.Answers.{unused_row, rule_held, held_by}
-use Rattle.writer.specs.Answers.{writing, Written}
+use Rattle.writer.specs.Answers.{Written}
 use Rattle.writer.specs.Inside.{RowsFit, RowsThere, FileSized}
 use Rattle.automaton.specs.declared.Automaton.{Automaton}
 use Rattle.writer.specs.declared.fits.Fitted.{Fitted}
@@ -169,7 +169,6 @@ module _ (value : Automaton) (arities-long : length value.arities ≡ 32) (rows_
 
 module _ (value : Automaton) (before : List ℕ) (size : ℕ) (sized : FileSized value size) where
   pub write-unfit : size ≡ 0 → Written value before before (record { refusal = refusal 4; length = 0 })
-  unfolding writing
   write-unfit z =
       record {
         unfit = λ _. (refl, refl);
@@ -179,7 +178,6 @@ module _ (value : Automaton) (before : List ℕ) (size : ℕ) (sized : FileSized
 
   module _ (fit : size ≡ 0 → ⊥) where
     pub write-short : length before < size → Written value before before (record { refusal = refusal 6; length = 0 })
-    unfolding writing
     write-short h =
         record {
           unfit = λ n. absurd (n (sized.fit fit));
@@ -189,7 +187,6 @@ module _ (value : Automaton) (before : List ℕ) (size : ℕ) (sized : FileSized
 
     pub write_done : size ≤ length before → (after : List ℕ) → after ≡ sets before 0 (file_of (held_by value))
         → Written value before after (record { refusal = no_refusal; length = size })
-    unfolding writing
     write_done h after e =
         record {
           unfit = λ n. absurd (n (sized.fit fit));

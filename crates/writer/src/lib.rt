@@ -4,11 +4,12 @@
 mod fits;
 mod puts;
 
-ghost use Rattle.writer.specs.Answers.{Written};
+ghost use Rattle.std.specs.Prelude.{◌≡◌};
+ghost use Rattle.writer.specs.Answers.{Written, writing_of};
 
-use automaton::{Automaton, Refusal};
+use automaton::{Automaton, Refusal, Refused};
 
-// What `write` answers: the file's length, 0 on a refusal.
+// The file's length as C has it, 0 on a refusal.
 #[repr(C)]
 #[derive(Clone, Copy)]
 pub struct Writing {
@@ -16,26 +17,28 @@ pub struct Writing {
     pub length: usize,
 }
 
-// The file of any value, into the lent bytes, and its length; 4 where there is no such file, then 6 where the bytes are too few.
-pub fn write(value: Automaton, out: &mut [u8]) -> Writing
-    ensures { Written value out.old out.new result }
+impl From<Result<usize, Refused>> for Writing {
+    ghost from_gives = { λ r given. given ≡ writing_of r };
+
+    fn from(r: Result<usize, Refused>) -> Writing {
+        Writing {
+            refusal: r.into(),
+            length: r.unwrap_or(0),
+        }
+    }
+}
+
+// The file of any value, into the lent bytes, and its length. Refused as beyond a limit where there is no such file, then as short where the bytes are too few.
+pub fn write(value: Automaton, out: &mut [u8]) -> Result<usize, Refused>
+    ensures { Written value out.old out.new (writing_of result) }
 {
     let length = fits::file_size(value);
     if length == 0 {
-        return Writing {
-            refusal: Refusal::UNFIT,
-            length: 0,
-        };
+        return Err(Refused::Limit);
     }
     if out.len() < length {
-        return Writing {
-            refusal: Refusal::SHORT,
-            length: 0,
-        };
+        return Err(Refused::Short);
     }
     puts::put_file(value, out);
-    Writing {
-        refusal: Refusal::DONE,
-        length,
-    }
+    Ok(length)
 }

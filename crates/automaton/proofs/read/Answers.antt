@@ -1,21 +1,18 @@
-use mathlib.Core.Path.{◌∙◌}
-use Rattle.automaton.proofs.Finding.Whole.{head-refused, symbols-refused, rows-asked, rows-refused, all_read}
+use Rattle.std.proofs.Common.{arith}
+use Rattle.automaton.proofs.Refusing.{refused-as, refused-past}
 use Rattle.automaton.proofs.read.Goals as goal
 
-pub returns-then-head-ne0 : goal.returns-then-head-ne0
-returns-then-head-ne0 c = c.refused.ensures ∙ head-refused c.args.file.now c.head_of-head.result c.head_of-head.ensures c.if-head-ne0.true
+pub returns-in-1 : goal.returns-in-1
+returns-in-1 c = refused-as c.args.file.now c.found_in-found.result c.found_in-found.ensures 1 c.in-1.is (λ e. omega arith)
 
-pub symbols_of-known-requires : goal.symbols_of-known-requires
-symbols_of-known-requires c = c.head_of-head.ensures.inside c.if-head-ne0.false
+pub returns-in-2 : goal.returns-in-2
+returns-in-2 c = refused-as c.args.file.now c.found_in-found.result c.found_in-found.ensures 2 c.in-2.is (λ e. omega arith)
 
-pub returns-then-known-ne0 : goal.returns-then-known-ne0
-returns-then-known-ne0 c = c.refused-then-known-ne0.ensures ∙ symbols-refused c.args.file.now c.head_of-head.result c.head_of-head.ensures c.if-head-ne0.false c.symbols_of-known.result c.symbols_of-known.ensures c.if-known-ne0.true
+pub returns-in-3 : goal.returns-in-3
+returns-in-3 c = refused-as c.args.file.now c.found_in-found.result c.found_in-found.ensures 3 c.in-3.is (λ e. omega arith)
 
-pub rows_of-rules-requires : goal.rows_of-rules-requires
-rows_of-rules-requires c = rows-asked c.args.file.now c.head_of-head.result c.head_of-head.ensures c.if-head-ne0.false c.symbols_of-known.result c.symbols_of-known.ensures c.if-known-ne0.false
+pub returns-in-4 : goal.returns-in-4
+returns-in-4 c = refused-as c.args.file.now c.found_in-found.result c.found_in-found.ensures 4 c.in-4.is (λ e. omega arith)
 
-pub returns-then-rules-ne0 : goal.returns-then-rules-ne0
-returns-then-rules-ne0 c = c.refused-then-rules-ne0.ensures ∙ rows-refused c.args.file.now c.head_of-head.result c.head_of-head.ensures c.if-head-ne0.false c.symbols_of-known.result c.symbols_of-known.ensures c.if-known-ne0.false c.rows_of-rules.result c.rows_of-rules.ensures c.if-rules-ne0.true
-
-pub returns : goal.returns
-returns c = all_read c.args.file.now c.head_of-head.result c.head_of-head.ensures c.if-head-ne0.false c.symbols_of-known.result c.symbols_of-known.ensures c.if-known-ne0.false c.rows_of-rules.result c.rows_of-rules.ensures c.if-rules-ne0.false
+pub returns-in_default : goal.returns-in_default
+returns-in_default c = refused-as c.args.file.now c.found_in-found.result c.found_in-found.ensures 5 (refused-past c.args.file.now c.found_in-found.result c.found_in-found.ensures (λ e. omega arith) (λ e. omega arith) (λ e. omega arith) (λ e. omega arith) (λ e. omega arith)) (λ e. omega arith)

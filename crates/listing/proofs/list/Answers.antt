@@ -18,10 +18,10 @@ returns-then-not-fits_in c =
     let n = refuted c.fits_in.ensures c.if-not-fits_in.true in
     lists-short a.words.now a.count a.answer a.out.now (c.is_sound.ensures.only c.if-not-is_sound.false) (omega arith)
 
-pub put_listing-length-requires : goal.put_listing-length-requires
-put_listing-length-requires c = record { sound = c.is_sound.ensures.only c.if-not-is_sound.false; answer_in_bounds = c.fits_in.ensures.only c.if-not-fits_in.false }
+pub put_listing-requires : goal.put_listing-requires
+put_listing-requires c = record { sound = c.is_sound.ensures.only c.if-not-is_sound.false; answer_in_bounds = c.fits_in.ensures.only c.if-not-fits_in.false }
 
 pub returns : goal.returns
 returns c =
     let a = c.args in
-    lists-done a.words.now a.count a.answer a.out.now (c.is_sound.ensures.only c.if-not-is_sound.false) (c.fits_in.ensures.only c.if-not-fits_in.false) c.put_listing-length.ensures
+    lists-done a.words.now a.count a.answer a.out.now (c.is_sound.ensures.only c.if-not-is_sound.false) (c.fits_in.ensures.only c.if-not-fits_in.false) c.put_listing.ensures

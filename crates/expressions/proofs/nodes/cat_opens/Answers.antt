@@ -18,13 +18,13 @@ of_word-requires c = tt
 pub union-requires : goal.union-requires
 union-requires c = tt
 
-pub wide16-requires : goal.wide16-requires
-wide16-requires c = tt
+pub wide-requires : goal.wide-requires
+wide-requires c = tt
 
 pub returns-then-has : goal.returns-then-has
 returns-then-has c =
     let a = c.args in
-    c.wide16.ensures ∙ c.union.ensures
+    c.wide.ensures ∙ c.union.ensures
     ∙ rw (c.without.ensures, c.of_word.ensures, c.of_word-set.ensures)
     (cat-joined a.q a.left a.right c.requires (rw (← c.of_word-set.ensures) (sym c.has.ensures ∙ c.if-has.true)))
 

@@ -13,8 +13,8 @@ one-requires c = tt
 pub union-requires : goal.union-requires
 union-requires c = tt
 
-pub wide16-requires : goal.wide16-requires
-wide16-requires c = tt
+pub wide-requires : goal.wide-requires
+wide-requires c = tt
 
 pub returns : goal.returns
-returns c = c.wide16.ensures ∙ c.union.ensures ∙ rw (c.of_word.ensures, c.one.ensures) (union-cut-left state_width _ _)
+returns c = c.wide.ensures ∙ c.union.ensures ∙ rw (c.of_word.ensures, c.one.ensures) (union-cut-left state_width _ _)

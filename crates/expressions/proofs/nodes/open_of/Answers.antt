@@ -35,7 +35,7 @@ returns-in-0 c = rw c.in-0.is (empty-zero state_width)
 
 pub returns-in-1 : goal.returns-in-1
 unfolding opens_in opens_of
-returns-in-1 c = c.wide16.ensures ∙ c.one.ensures ∙ rw c.in-1.is
+returns-in-1 c = c.wide.ensures ∙ c.one.ensures ∙ rw c.in-1.is
 
 pub returns-in-2 : goal.returns-in-2
 unfolding opens_in opens_of

@@ -18,6 +18,6 @@ joined-requires c = child-first (λ i. node_width * suc i ≤ length c.args.word
 pub returns : goal.returns
 returns c =
     let a = c.args in
-    c.wide16.ensures ∙ c.joined.ensures
+    c.wide.ensures ∙ c.joined.ensures
     ∙ rw (c.joined-later.ensures, c.joined-last.ensures, c.empty.ensures)
     (union-three (λ i. (read_node a.words.now i).opens) a.shape c.child_count-n.ensures)

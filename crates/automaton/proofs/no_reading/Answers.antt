@@ -1,5 +1,5 @@
 use Rattle.automaton.specs.Answers.{no_automaton}
-use Rattle.automaton.proofs.refused.Goals as goal
+use Rattle.automaton.proofs.no_reading.Goals as goal
 
 pub returns : goal.returns
 unfolding no_automaton
