@@ -7,12 +7,15 @@ use Rattle.automaton.specs.declared.Reading.{Reading}
 use Rattle.automaton.specs.declared.Refusal.{Refusal}
 use Rattle.automaton.specs.Held.{Held, Valid}
 use Rattle.automaton.specs.Checks.{Verdict, holds, fault, verdict}
-use Rattle.automaton.specs.Refusals.{no_refusal, fault_refusal}
-use Rattle.automaton.specs.Answers.{placed, held_by, reading_of, read_answer}
+use Rattle.std.specs.Prelude.{Ok, Err}
+use Rattle.automaton.specs.declared.Refused.{Refused}
+use Rattle.automaton.specs.Refusals.{refusal, no_refusal, number_of, fault_refusal}
+use Rattle.automaton.specs.Answers.{placed, held_by, reading_of, read_answer, read_of}
 use Rattle.automaton.specs.Handed.{Handed}
 use Rattle.automaton.proofs.Files.Faults.{fault-some}
 use Rattle.automaton.proofs.Files.Pair.{verdict-valid}
 use Rattle.automaton.proofs.Values.{held-placed}
+use Rattle.automaton.proofs.Refusing.{number-some}
 
 -- the fault that a reading refuses
 pub record Faulty (file : List ℕ) (refusal : Refusal) : Type 0 where
@@ -68,3 +71,14 @@ module _ (file : List ℕ) (reading : Reading) (is_read : reading ≡ read_answe
       go (holds held) e =
           record { held = held; in_file = e; said = read-says held e; handed = rw (read-value held e) (placed-handed held (verdict-valid file held e)) }
       go (fault number offset) e = absurd (read-no-fault z number offset e)
+
+-- ---- from the result of `read`
+
+module _ (file : List ℕ) where
+  -- a reason is that of the file's fault
+  pub result-fault : (reason : Refused) → read_of (Err reason) ≡ read_answer file → Faulty file (refusal (number_of reason))
+  result-fault reason e = read-fault file (read_of (Err reason)) e (number-some reason)
+
+  -- a value says what the file holds
+  pub result-held : (value : Automaton) → read_of (Ok value) ≡ read_answer file → Holding file value
+  result-held value e = read_held file (read_of (Ok value)) e refl

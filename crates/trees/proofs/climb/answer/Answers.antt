@@ -21,4 +21,4 @@ returns-then-count-le-MOST_WORDS c = rw (le-leb (length c.args.words.now) most_w
 
 pub returns : goal.returns
 unfolding words_answer
-returns c = rw (lt-leb (length c.args.words.now) most_words (omega arith)) c.refused.ensures
+returns c = rw (lt-leb (length c.args.words.now) most_words (omega arith))

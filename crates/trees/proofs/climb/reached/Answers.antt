@@ -7,12 +7,9 @@ use Rattle.trees.proofs.Stacking.{meets-and}
 use native.Mathlib.Omega.{arith}
 use Rattle.trees.proofs.climb.reached.Goals as goal
 
-pub refused-requires : goal.refused-requires
-refused-requires c = omega arith
-
 pub returns-then-trees-ne1 : goal.returns-then-trees-ne1
 unfolding trees_answer
-returns-then-trees-ne1 c = rw (ne_eqb c.args.trees 1 c.if-trees-ne1.true) c.refused.ensures
+returns-then-trees-ne1 c = rw (ne_eqb c.args.trees 1 c.if-trees-ne1.true)
 
 pub returns : goal.returns
 unfolding trees_answer run_to
