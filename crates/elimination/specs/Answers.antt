@@ -1,11 +1,12 @@
 -- What `convert_partly` and `convert` promise, of the file's bytes, the lent words before and after, and what is returned.
-use Rattle.std.specs.Prelude.{ℕ, ◌*◌, ◌/◌, ◌≤◌, ◌<◌, ◌≡◌, List, ◌++◌, map, length, take, drop, replicate}
+use Rattle.std.specs.Prelude.{ℕ, ◌*◌, ◌/◌, ◌≤◌, ◌<◌, ◌≡◌, List, ◌++◌, map, length, take, drop, replicate, Result, Ok, Err}
 use Rattle.ground.specs.Lists.{filled}
 use Rattle.buffers.specs.Writing.{all_zero}
 use Rattle.automaton.specs.declared.Refusal.{Refusal}
+use Rattle.automaton.specs.declared.Refused.{Refused}
 use Rattle.automaton.specs.Held.{Held}
 use Rattle.automaton.specs.Checks.{holds, fault, verdict}
-use Rattle.automaton.specs.Refusals.{refusal, no_refusal, fault_refusal}
+use Rattle.automaton.specs.Refusals.{refusal, no_refusal, number_of, fault_refusal}
 use Rattle.expressions.specs.Nodes.{Table}
 use Rattle.expressions.specs.Words.{node_width, table_of, words_of}
 use Rattle.theory.specs.declared.NodeRow.{NodeRow}
@@ -13,6 +14,8 @@ use Rattle.theory.specs.RowLists.{list_places}
 use Rattle.theory.specs.Stages.{Stage, Made, waits_for, stage_after, converted}
 use Rattle.theory.specs.Theorem.{PartlyConverted, WhollyConverted}
 use Rattle.elimination.specs.declared.ListRow.{ListRow}
+use Rattle.elimination.specs.declared.Stopped.{Stopped}
+use Rattle.elimination.specs.declared.Converted.{Converted}
 use Rattle.elimination.specs.declared.Partly.{Partly}
 use Rattle.elimination.specs.declared.Wholly.{Wholly}
 
@@ -41,6 +44,11 @@ list_of_rows stage = filled list_places unused_place (map (list_row stage.table)
 -- what is returned with a refusal: every other number 0 [4.20]
 unfoldable pub refused_partly : Refusal → Partly
 refused_partly given = record { refusal = given; nodes = 0; rows = 0; list = replicate list_places unused_place }
+
+-- the numbers and the list of a result of `convert_partly` [8.21, 12.13]
+abbrev pub partly_answer : Result Stopped Refused → Partly
+partly_answer (Ok stopped) = record { refusal = no_refusal; nodes = stopped.nodes; rows = stopped.rows; list = stopped.list }
+partly_answer (Err reason) = refused_partly (refusal (number_of reason))
 
 -- what is returned of a stage: how many nodes, how many rows, and the list [8.21]
 unfoldable pub partly_done : Stage → Partly
@@ -74,6 +82,11 @@ pub record PartlyAnswered (file : List ℕ) (k : ℕ) (before after : List ℕ) 
 -- what is returned with a refusal: every other number 0 [4.20]
 unfoldable pub refused_whole : Refusal → Wholly
 refused_whole given = record { refusal = given; nodes = 0; answer = 0 }
+
+-- the numbers of a result of `convert` [8.26, 12.13]
+abbrev pub wholly_answer : Result Converted Refused → Wholly
+wholly_answer (Ok made) = record { refusal = no_refusal; nodes = made.nodes; answer = made.answer }
+wholly_answer (Err reason) = refused_whole (refusal (number_of reason))
 
 -- what is returned: how many nodes, and the answer [8.26]
 unfoldable pub wholly_done : Made → Wholly

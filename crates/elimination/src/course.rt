@@ -11,6 +11,7 @@ use crate::maker::Got;
 use crate::rows::Staged;
 use crate::{rows, start, step};
 use automaton::Automaton;
+use ground::Wide;
 
 // The first k states taken out, the lowest first.
 fn take_first(words: &mut [u32], begun: Staged, k: u32) -> Staged
@@ -43,11 +44,11 @@ pub fn wholly(words: &mut [u32], value: Automaton) -> Got
     requires { Handed value }
     ensures { GivesNode words.old (converted (held_by value)) words.new result }
 {
-    let staged = partly(words, value, ground::wide(value.states));
+    let staged = partly(words, value, value.states.wide());
     let last = Got {
         count: staged.count,
         node: 0,
     };
-    let target = ground::wide(rows::FINAL_TARGET);
+    let target = rows::FINAL_TARGET.wide();
     step::join_rows(words, last, staged.list, target, false)
 }

@@ -1,12 +1,14 @@
 // The conversion: the states of a file's automaton taken out one after the other, and the expression that is left.
 #![tactic(auto)]
 
+ghost use Rattle.std.specs.Prelude.{◌≡◌};
 ghost use Rattle.automaton.specs.Answers.{held_by};
 ghost use Rattle.automaton.specs.Handed.{Handed};
-ghost use Rattle.elimination.specs.Answers.{PartlyAnswered, WhollyAnswered};
+ghost use Rattle.elimination.specs.Answers.{PartlyAnswered, WhollyAnswered, partly_answer, wholly_answer};
 ghost use Rattle.elimination.specs.Inside.{PartlyOf, WhollyOf};
 
-use automaton::{Automaton, Refusal};
+use automaton::{Automaton, Refusal, Refused};
+use ground::Wide;
 
 mod course;
 mod maker;
@@ -27,7 +29,15 @@ pub struct ListRow {
     pub waits: u8,
 }
 
-// What `convert_partly` answers: the number of nodes, the number of rows, and the list; places past the rows are 0.
+// A conversion stopped after some states: the number of nodes, the number of rows, and the list; places past the rows are 0.
+#[derive(Clone, Copy)]
+pub struct Stopped {
+    pub nodes: usize,
+    pub rows: usize,
+    pub list: [ListRow; LIST_PLACES],
+}
+
+// The same as C has it: on a refusal every other number is 0.
 #[repr(C)]
 #[derive(Clone, Copy)]
 pub struct Partly {
@@ -37,7 +47,29 @@ pub struct Partly {
     pub list: [ListRow; LIST_PLACES],
 }
 
-// What `convert` answers: the number of nodes, and the answer's node.
+impl From<Result<Stopped, Refused>> for Partly {
+    ghost from_gives = { λ r given. given ≡ partly_answer r };
+
+    fn from(r: Result<Stopped, Refused>) -> Partly {
+        let refusal = r.into();
+        let Stopped { nodes, rows, list } = r.unwrap_or(report::nothing());
+        Partly {
+            refusal,
+            nodes,
+            rows,
+            list,
+        }
+    }
+}
+
+// A full conversion: the number of nodes, and the answer's node.
+#[derive(Clone, Copy)]
+pub struct Converted {
+    pub nodes: usize,
+    pub answer: usize,
+}
+
+// The same as C has it: on a refusal every other number is 0.
 #[repr(C)]
 #[derive(Clone, Copy)]
 pub struct Wholly {
@@ -46,45 +78,54 @@ pub struct Wholly {
     pub answer: usize,
 }
 
+impl From<Result<Converted, Refused>> for Wholly {
+    ghost from_gives = { λ r given. given ≡ wholly_answer r };
+
+    fn from(r: Result<Converted, Refused>) -> Wholly {
+        let refusal = r.into();
+        let Converted { nodes, answer } = r.unwrap_or(Converted {
+            nodes: 0,
+            answer: 0,
+        });
+        Wholly {
+            refusal,
+            nodes,
+            answer,
+        }
+    }
+}
+
 // The automaton after its first k states are taken out.
-fn partly_of(nodes: &mut [u32], value: Automaton, k: u32) -> Partly
+fn partly_of(nodes: &mut [u32], value: Automaton, k: u32) -> Result<Stopped, Refused>
     requires { Handed value }
-    ensures { PartlyOf (held_by value) k nodes.old nodes.new result }
+    ensures { PartlyOf (held_by value) k nodes.old nodes.new (partly_answer result) }
 {
-    if ground::wide(value.states) < k {
-        return report::refused_partly(Refusal::TOO_FAR);
+    if value.states.wide() < k {
+        return Err(Refused::TooFar);
     }
     let staged = course::partly(nodes, value, k);
     report::stop(nodes, staged)
 }
 
 // The automaton of a file after the first k states are taken out: the nodes go to the lent words.
-pub fn convert_partly(file: &[u8], k: u32, nodes: &mut [u32]) -> Partly
-    ensures { PartlyAnswered file.now k nodes.old nodes.new result }
+pub fn convert_partly(file: &[u8], k: u32, nodes: &mut [u32]) -> Result<Stopped, Refused>
+    ensures { PartlyAnswered file.now k nodes.old nodes.new (partly_answer result) }
 {
-    let reading = automaton::read(file);
-    if reading.refusal.number != 0 {
-        return report::refused_partly(reading.refusal);
-    }
-    partly_of(nodes, reading.automaton, k)
+    partly_of(nodes, automaton::read(file)?, k)
 }
 
 // The expression of the automaton.
-fn wholly_of(nodes: &mut [u32], value: Automaton) -> Wholly
+fn wholly_of(nodes: &mut [u32], value: Automaton) -> Result<Converted, Refused>
     requires { Handed value }
-    ensures { WhollyOf (held_by value) nodes.old nodes.new result }
+    ensures { WhollyOf (held_by value) nodes.old nodes.new (wholly_answer result) }
 {
     let got = course::wholly(nodes, value);
     report::answer(nodes, got)
 }
 
 // The expression of a file's automaton: the nodes go to the lent words.
-pub fn convert(file: &[u8], nodes: &mut [u32]) -> Wholly
-    ensures { WhollyAnswered file.now nodes.old nodes.new result }
+pub fn convert(file: &[u8], nodes: &mut [u32]) -> Result<Converted, Refused>
+    ensures { WhollyAnswered file.now nodes.old nodes.new (wholly_answer result) }
 {
-    let reading = automaton::read(file);
-    if reading.refusal.number != 0 {
-        return report::refused_whole(reading.refusal);
-    }
-    wholly_of(nodes, reading.automaton)
+    wholly_of(nodes, automaton::read(file)?)
 }

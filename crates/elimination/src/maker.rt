@@ -64,24 +64,16 @@ pub fn new_node(
 ) -> Got
     ensures { GoesOn (λ made. Fits (length made.table) (shape_of kind label first second third)) (λ made. added made.table (shape_of kind label first second third)) words.old last words.new result }
 {
-    let answer = expressions::make(
-        words,
-        last.count as usize,
-        kind,
-        label,
-        first,
-        second,
-        third,
-    );
-    if answer.number == 0 {
-        return Got {
+    let number = last.count as usize;
+    match expressions::make(words, number, kind, label, first, second, third) {
+        Ok(()) => Got {
             count: last.count + 1,
             node: last.count,
-        };
-    }
-    Got {
-        count: NO_ROOM,
-        node: 0,
+        },
+        Err(_) => Got {
+            count: NO_ROOM,
+            node: 0,
+        },
     }
 }
 

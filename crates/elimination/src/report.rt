@@ -1,14 +1,15 @@
 // What a conversion reports: a refusal, a stop's list with what each row waits for, or an answer. Where there was no room, every word is 0.
 ghost use Rattle.std.specs.Prelude.{◌≡◌, replicate};
 ghost use Rattle.theory.specs.RowLists.{list_places};
-ghost use Rattle.elimination.specs.Answers.{unused_place, refused_partly, refused_whole};
+ghost use Rattle.elimination.specs.Answers.{unused_place, partly_answer, wholly_answer};
 ghost use Rattle.elimination.specs.Inside.{Tidy, reported_row, reported_rows, ReportsStop, ReportsAnswer};
 
 use crate::maker::Got;
 use crate::rows::{Rows, Staged};
-use crate::{LIST_PLACES, ListRow, Partly, Wholly, maker, rows};
-use automaton::Refusal;
+use crate::{Converted, LIST_PLACES, ListRow, Stopped, maker, rows};
+use automaton::Refused;
 use expressions::MOST_NODES;
+use ground::Wide;
 use theory::NodeRow;
 
 const UNUSED: ListRow = ListRow {
@@ -24,27 +25,15 @@ fn no_rows() -> [ListRow; LIST_PLACES]
     [UNUSED; LIST_PLACES]
 }
 
-// A partial conversion that is refused.
-pub fn refused_partly(refusal: Refusal) -> Partly
-    ensures { result ≡ refused_partly refusal }
+// A stop with no node and no row.
+pub fn nothing() -> Stopped
+    ensures { result ≡ record { nodes = 0; rows = 0; list = replicate list_places unused_place } }
 {
     let list = no_rows();
-    Partly {
-        refusal,
+    Stopped {
         nodes: 0,
         rows: 0,
         list,
-    }
-}
-
-// A full conversion that is refused.
-pub fn refused_whole(refusal: Refusal) -> Wholly
-    ensures { result ≡ refused_whole refusal }
-{
-    Wholly {
-        refusal,
-        nodes: 0,
-        answer: 0,
     }
 }
 
@@ -54,7 +43,7 @@ fn list_row(words: &[u32], row: NodeRow) -> ListRow
 {
     let node = row.node;
     let target = row.target;
-    let waits = maker::waits(words, ground::wide16(node));
+    let waits = maker::waits(words, node.wide());
     ListRow {
         node,
         target,
@@ -78,34 +67,32 @@ fn list_rows(words: &[u32], list: Rows) -> [ListRow; LIST_PLACES]
 }
 
 // A stop of a conversion.
-pub fn stop(words: &mut [u32], staged: Staged) -> Partly
+pub fn stop(words: &mut [u32], staged: Staged) -> Result<Stopped, Refused>
     requires { Tidy staged.list }
-    ensures { ReportsStop words.old staged words.new result }
+    ensures { ReportsStop words.old staged words.new (partly_answer result) }
 {
     if MOST_NODES < staged.count as usize {
         buffers::zero(words);
-        return refused_partly(Refusal::SHORT);
+        return Err(Refused::Short);
     }
     let list = list_rows(&words[..], staged.list);
-    Partly {
-        refusal: Refusal::DONE,
+    Ok(Stopped {
         nodes: staged.count as usize,
         rows: staged.list.count,
         list,
-    }
+    })
 }
 
 // The end of a conversion.
-pub fn answer(words: &mut [u32], got: Got) -> Wholly
-    ensures { ReportsAnswer words.old got words.new result }
+pub fn answer(words: &mut [u32], got: Got) -> Result<Converted, Refused>
+    ensures { ReportsAnswer words.old got words.new (wholly_answer result) }
 {
     if MOST_NODES < got.count as usize {
         buffers::zero(words);
-        return refused_whole(Refusal::SHORT);
+        return Err(Refused::Short);
     }
-    Wholly {
-        refusal: Refusal::DONE,
+    Ok(Converted {
         nodes: got.count as usize,
         answer: got.node as usize,
-    }
+    })
 }

@@ -14,6 +14,7 @@ use crate::rows::{Rows, Staged};
 use crate::{maker, rows};
 use automaton::{Automaton, Row, SYMBOL_PLACES};
 use expressions::{ARITY_STEP, Shape};
+use ground::Wide;
 use sets::StateSet;
 
 // The empty node and the holes of n states.
@@ -36,7 +37,7 @@ fn child(place: u32, arity: u32, source: u8) -> u32
     ensures { result ≡ child_of place arity source }
 {
     if place < arity {
-        return ground::wide(source) + 1;
+        return source.wide() + 1;
     }
     0
 }
@@ -48,14 +49,14 @@ fn rule_shape(rule: Row, arities: &[u8; SYMBOL_PLACES]) -> Shape
     ensures { result ≡ row_shape rule (get_or arities.now rule.symbol 0) }
 {
     let at = ground::index(rule.symbol);
-    let arity = ground::wide(arities[at]);
+    let arity = arities[at].wide();
     let sources = rule.sources;
     let first = child(0, arity, sources[0]);
     let second = child(1, arity, sources[1]);
     let third = child(2, arity, sources[2]);
     Shape {
         kind: 2,
-        label: ground::wide(rule.symbol) + ARITY_STEP * arity,
+        label: rule.symbol.wide() + ARITY_STEP * arity,
         first,
         second,
         third,
@@ -95,7 +96,7 @@ fn rule_rows(value: Automaton) -> Rows
 {
     let n = ground::index(value.count);
     let mut places = rows::no_places();
-    let mut node = ground::wide(value.states);
+    let mut node = value.states.wide();
     let mut i: usize = 0;
     while i < n {
         let rule = value.rows[i];
@@ -133,7 +134,7 @@ pub fn begin(words: &mut [u32], value: Automaton) -> Staged
     ensures tidy { Tidy result.list }
     ensures gives_stage { GivesStage words.old (start (held_by value)) words.new result }
 {
-    let n = ground::wide(value.states);
+    let n = value.states.wide();
     let finals = value.finals;
     let list = put_finals(rule_rows(value), n, finals);
     let holes = put_holes(words, n);

@@ -9,14 +9,15 @@ ghost use Rattle.elimination.specs.Inside.{GoesOn, RowsOn, StagesOn, Tidy, Worka
 use crate::maker::Got;
 use crate::rows::{Rows, Staged};
 use crate::{maker, rows};
+use ground::Wide;
 use theory::NodeRow;
 
 // Does the row go to q, with q open in it, or with q not open?
 fn picked(words: &[u32], row: NodeRow, q: u32, looping: bool) -> bool
     ensures { result ≡ picked_by q looping row.target (node_in words.now row.node) }
 {
-    if ground::wide(row.target) == q {
-        let open = maker::opens(words, ground::wide16(row.node), q);
+    if row.target.wide() == q {
+        let open = maker::opens(words, row.node.wide(), q);
         if looping {
             return open;
         }
@@ -30,7 +31,7 @@ fn join_row(words: &mut [u32], left: Got, row: NodeRow, q: u32, looping: bool) -
     ensures { GoesOn (λ made. (made.node < length made.table) × (row.node < length made.table)) (joined_row q looping row) words.old left words.new result }
 {
     if picked(&words[..], row, q, looping) {
-        return maker::make_alt(words, left, ground::wide16(row.node));
+        return maker::make_alt(words, left, row.node.wide());
     }
     left
 }
@@ -80,7 +81,7 @@ fn replace(words: &mut [u32], last: Got, q: u32, standin: u32, row: NodeRow) -> 
     requires fact { row.target ≡ q → ⊥ }
     ensures { GoesOn (λ made. (row.node < length made.table) × (standin < length made.table)) (λ made. replaced_made q standin made.table row) words.old last words.new result }
 {
-    let node = ground::wide16(row.node);
+    let node = row.node.wide();
     if maker::opens(&words[..], node, q) {
         return maker::make_cat(words, last, q, node, standin);
     }
@@ -103,7 +104,7 @@ fn replace_rows(words: &mut [u32], standin: Got, list: Rows, q: u32) -> Staged
     while i < list.count {
         let row = list.places[i];
         i += 1;
-        if ground::wide(row.target) != q {
+        if row.target.wide() != q {
             got = replace(words, got, q, standin.node, row);
             places[kept] = rows::row(got.node, row.target);
             kept += 1;

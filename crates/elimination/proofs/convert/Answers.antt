@@ -1,22 +1,23 @@
-use Rattle.automaton.proofs.Handing.{read_held}
+use mathlib.Core.Path.{refl}
+use Rattle.std.specs.Prelude.{Ok}
+use Rattle.std.proofs.lemmas.Result.{err_from_is_err_and}
+use Rattle.automaton.specs.Answers.{read_of}
+use Rattle.automaton.proofs.Handing.{result-held}
+use Rattle.automaton.proofs.Refusing.{number-some}
+use Rattle.elimination.specs.Answers.{wholly_answer}
 use Rattle.elimination.proofs.Promises.{wholly-held, wholly-refused}
 use Rattle.elimination.proofs.convert.Goals as goal
 
-pub returns-then-reading-ne0 : goal.returns-then-reading-ne0
-returns-then-reading-ne0 c =
-    let read = c.read-reading in
+pub returns-in_err-read : goal.returns-in_err-read
+returns-in_err-read c =
     let a = c.args in
-    rw c.refused_whole.ensures (wholly-refused a.file.now read.result read.ensures a.nodes.now c.if-reading-ne0.true)
+    let p = err_from_is_err_and c.from_residual.result c.from_residual.ensures.1 in
+    rw (p.1, p.2) (wholly-refused a.file.now _ c.in_err-read.ensures a.nodes.now (number-some c.in_err-read.field-0.0))
 
 pub wholly_of-requires : goal.wholly_of-requires
-wholly_of-requires c =
-    let read = c.read-reading in
-    let a = c.args in
-    (read_held a.file.now read.result read.ensures c.if-reading-ne0.false).handed
+wholly_of-requires c = (result-held c.args.file.now c.in_ok-read.field-0 c.in_ok-read.ensures).handed
 
 pub returns : goal.returns
 returns c =
-    let wholly_of_lem = c.wholly_of in
-    let read = c.read-reading in
     let a = c.args in
-    wholly-held a.file.now read.result read.ensures a.nodes.now wholly_of_lem.new.nodes wholly_of_lem.result c.if-reading-ne0.false wholly_of_lem.ensures
+    wholly-held a.file.now (read_of (Ok c.in_ok-read.field-0)) c.in_ok-read.ensures a.nodes.now c.wholly_of.new.nodes (wholly_answer c.wholly_of.result) refl c.wholly_of.ensures

@@ -4,7 +4,7 @@ use Rattle.elimination.proofs.report.answer.Goals as goal
 pub returns-then-got-gt-MOST_NODES : goal.returns-then-got-gt-MOST_NODES
 returns-then-got-gt-MOST_NODES c =
     let a = c.args in
-    rw (c.refused_whole.ensures, c.zero.ensures) (answer-short a.words.now a.got c.if-got-gt-MOST_NODES.true)
+    rw c.zero.ensures (answer-short a.words.now a.got c.if-got-gt-MOST_NODES.true)
 
 pub returns : goal.returns
 returns c =

@@ -10,10 +10,10 @@ pub overflow_cast-result : goal.overflow_cast-result
 overflow_cast-result c =
     let a = c.args in
     let e = c.waits-waits.ensures in
-    let s = size_few state_width (node_in a.words.now c.wide16.result).opens in
+    let s = size_few state_width (node_in a.words.now c.wide.result).opens in
     omega arith
 
 pub returns : goal.returns
 returns c =
     let a = c.args in
-    ap (λ (n : ℕ). record { node = a.row.node; target = a.row.target; waits = n }) (c.waits-waits.ensures ∙ ap (λ (m : ℕ). size state_width (node_in a.words.now m).opens) c.wide16.ensures)
+    ap (λ (n : ℕ). record { node = a.row.node; target = a.row.target; waits = n }) (c.waits-waits.ensures ∙ ap (λ (m : ℕ). size state_width (node_in a.words.now m).opens) c.wide.ensures)

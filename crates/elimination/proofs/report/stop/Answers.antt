@@ -4,7 +4,7 @@ use Rattle.elimination.proofs.report.stop.Goals as goal
 pub returns-then-staged-gt-MOST_NODES : goal.returns-then-staged-gt-MOST_NODES
 returns-then-staged-gt-MOST_NODES c =
     let a = c.args in
-    rw (c.refused_partly.ensures, c.zero.ensures) (stop-short a.words.now a.staged c.if-staged-gt-MOST_NODES.true)
+    rw c.zero.ensures (stop-short a.words.now a.staged c.if-staged-gt-MOST_NODES.true)
 
 pub returns : goal.returns
 returns c =

@@ -6,7 +6,7 @@ returns-then-picked c =
     let make-alt = c.make_alt in
     let picked = c.picked in
     let a = c.args in
-    row-joined a.words.now a.left a.row a.q a.looping picked.result picked.ensures c.if-picked.true make-alt.new.words make-alt.result (rw c.wide16.ensures at make-alt.ensures)
+    row-joined a.words.now a.left a.row a.q a.looping picked.result picked.ensures c.if-picked.true make-alt.new.words make-alt.result (rw c.wide.ensures at make-alt.ensures)
 
 pub returns : goal.returns
 returns c =

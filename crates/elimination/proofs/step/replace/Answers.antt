@@ -10,7 +10,7 @@ returns-then-opens c =
     let make-cat = c.make_cat in
     let a = c.args in
     let p = c.requires in
-    let w = c.wide16-node.ensures in
+    let w = c.wide-node.ensures in
     let o = ap (λ (n : ℕ). open_in a.q (node_in a.words.now n)) (sym w) ∙ sym c.opens.ensures in
     replace-open a.words.now a.last a.q p.q_lt_state_width a.standin a.row p.fact (o ∙ c.if-opens.true) make-cat.new.words make-cat.result (rw w at make-cat.ensures)
 
@@ -18,6 +18,6 @@ pub returns : goal.returns
 returns c =
     let a = c.args in
     let p = c.requires in
-    let w = c.wide16-node.ensures in
+    let w = c.wide-node.ensures in
     let o = ap (λ (n : ℕ). open_in a.q (node_in a.words.now n)) (sym w) ∙ sym c.opens.ensures in
     rw w (replace-own a.words.now a.last a.q p.q_lt_state_width a.standin a.row p.fact (o ∙ c.if-opens.false))
