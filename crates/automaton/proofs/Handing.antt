@@ -8,7 +8,9 @@ use Rattle.automaton.specs.declared.Refusal.{Refusal}
 use Rattle.automaton.specs.Held.{Held, Valid}
 use Rattle.automaton.specs.Checks.{Verdict, holds, fault, verdict}
 use Rattle.std.specs.Prelude.{Ok, Err}
+use native.Mathlib.Omega.{arith}
 use Rattle.automaton.specs.declared.Refused.{Refused}
+use Rattle.automaton.specs.declared.Refused.TheVariants.{BreaksOff, Kind, Length, Limit, PastEnd, Short, NoTree, Unsound, TooFar}
 use Rattle.automaton.specs.Refusals.{refusal, no_refusal, number_of, fault_refusal}
 use Rattle.automaton.specs.Answers.{placed, held_by, reading_of, read_answer, read_of}
 use Rattle.automaton.specs.Handed.{Handed}
@@ -82,3 +84,15 @@ module _ (file : List ℕ) where
   -- a value says what the file holds
   pub result-held : (value : Automaton) → read_of (Ok value) ≡ read_answer file → Holding file value
   result-held value e = read_held file (read_of (Ok value)) e refl
+
+-- the number of one reason is no other's
+pub number-short : (reason : Refused) → number_of reason ≡ 6 → reason ≡ Short
+number-short BreaksOff e = absurd (omega arith)
+number-short Kind e = absurd (omega arith)
+number-short Length e = absurd (omega arith)
+number-short Limit e = absurd (omega arith)
+number-short PastEnd e = absurd (omega arith)
+number-short Short e = refl
+number-short NoTree e = absurd (omega arith)
+number-short Unsound e = absurd (omega arith)
+number-short TooFar e = absurd (omega arith)

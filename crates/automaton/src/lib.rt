@@ -97,6 +97,16 @@ pub struct Reading {
     pub automaton: Automaton,
 }
 
+impl From<Result<Automaton, Refused>> for Reading {
+    ghost from_gives = { λ r reading. reading ≡ read_of r };
+
+    fn from(r: Result<Automaton, Refused>) -> Reading {
+        let refusal = r.into();
+        let automaton = r.unwrap_or(no_automaton());
+        Reading { refusal, automaton }
+    }
+}
+
 const UNUSED: Row = Row {
     symbol: 0,
     target: 0,
@@ -114,6 +124,22 @@ fn no_arities() -> [u8; SYMBOL_PLACES]
     ensures { result ≡ replicate most_symbols 0 }
 {
     [0; SYMBOL_PLACES]
+}
+
+// No automaton: every number 0.
+fn no_automaton() -> Automaton
+    ensures { result ≡ no_automaton }
+{
+    let arities = no_arities();
+    let rows = no_rows();
+    Automaton {
+        states: 0,
+        finals: StateSet::EMPTY,
+        symbols: 0,
+        arities,
+        count: 0,
+        rows,
+    }
 }
 
 fn no_reading(number: u8) -> Reading

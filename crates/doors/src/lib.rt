@@ -25,14 +25,14 @@ use writer::Writing;
 pub extern "C" fn door_read(file: &[u8]) -> Reading
     ensures { result ≡ read_answer file.now }
 {
-    automaton::read(file)
+    automaton::read(file).into()
 }
 
 #[unsafe(no_mangle)]
 pub extern "C" fn door_write(value: Automaton, out: &mut [u8]) -> Writing
     ensures { Written value out.old out.new result }
 {
-    writer::write(value, out)
+    writer::write(value, out).into()
 }
 
 // ---- runs
@@ -41,14 +41,14 @@ pub extern "C" fn door_write(value: Automaton, out: &mut [u8]) -> Writing
 pub extern "C" fn door_run(file: &[u8], words: &[u16]) -> ReachedStates
     ensures { RunPromise file.now words.now result }
 {
-    trees::run(file, words)
+    trees::run(file, words).into()
 }
 
 #[unsafe(no_mangle)]
 pub extern "C" fn door_productive(file: &[u8]) -> ProductiveStates
     ensures { ProductivePromise file.now result }
 {
-    trees::productive(file)
+    trees::productive(file).into()
 }
 
 // ---- tables
@@ -87,6 +87,7 @@ pub extern "C" fn door_make(words: &mut [u32], count: usize, shape: Shape) -> Re
         shape.second,
         shape.third,
     )
+    .into()
 }
 
 #[unsafe(no_mangle)]
@@ -98,12 +99,12 @@ pub extern "C" fn door_measure(
 ) -> Measured
     ensures { Measures words.now count answer scratch.old scratch.new result }
 {
-    expressions::measure(words, count, answer, scratch)
+    expressions::measure(words, count, answer, scratch).into()
 }
 
 #[unsafe(no_mangle)]
 pub extern "C" fn door_list(words: &[u32], count: usize, answer: usize, out: &mut [u8]) -> Listed
     ensures { Lists words.now count answer out.old out.new result }
 {
-    listing::list(words, count, answer, out)
+    listing::list(words, count, answer, out).into()
 }

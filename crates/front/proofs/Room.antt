@@ -12,9 +12,12 @@ use Rattle.theory.specs.Stages.{converted}
 use Rattle.elimination.specs.Answers.{whole_nodes}
 use Rattle.theory.proofs.Counting.Bound.{bound-file}
 use Rattle.theory.proofs.Theorem.{wholly-ascending}
+use Rattle.std.specs.Prelude.{Result, Ok, Err, IsOk}
+use Rattle.automaton.specs.declared.Refused.{Refused}
+use Rattle.automaton.proofs.Refusing.{number-some}
 use Rattle.front.specs.declared.Printing.{Printing}
 use Rattle.front.specs.Text.{converted_listing, printed_text}
-use Rattle.front.specs.Answers.{nodes_made, TooShort, Prints, most_made, node_room, text_room}
+use Rattle.front.specs.Answers.{nodes_made, TooShort, printing_of, Prints, most_made, node_room, text_room}
 use Rattle.front.proofs.Outcomes.{text-holds, made_holds, text-fault-length, made_fault, room-both}
 
 -- ---- any file
@@ -67,3 +70,8 @@ module _ (file : List ℕ) where
     text-exact after text r p =
         let d = p.done room-enough in
         ap₂ take (ap (λ (a : Printing). a.length) d.0) d.1.1 ∙ take_at (printed_text file) (drop (length (printed_text file)) out) (length (printed_text file)) refl
+
+    -- so no result of `printed` is a refusal
+    pub never-refused : (after text : List ℕ) (r : Result ℕ Refused) → Prints file nodes after out text (printing_of r) → IsOk r
+    never-refused after text (Ok size) p = refl
+    never-refused after text (Err reason) p = absurd (number-some reason (never-six after text (printing_of (Err reason)) p))

@@ -1,6 +1,7 @@
 -- What `printed` promises, of the file's bytes, the lent words and bytes before and after, and what it returns; and the room with which it is never short [9.12, 9.13].
-use Rattle.std.specs.Prelude.{ℕ, ◌+◌, ◌*◌, ◌<◌, ◌≡◌, List, ◌++◌, ◌⊎◌, length, drop}
-use Rattle.automaton.specs.Refusals.{refusal}
+use Rattle.std.specs.Prelude.{ℕ, ◌+◌, ◌*◌, ◌<◌, ◌≡◌, List, ◌++◌, ◌⊎◌, length, drop, Result, Ok, Err}
+use Rattle.automaton.specs.declared.Refused.{Refused}
+use Rattle.automaton.specs.Refusals.{refusal, number_of}
 use Rattle.automaton.specs.Checks.{Verdict, holds, fault, verdict}
 use Rattle.expressions.specs.Words.{node_width}
 use Rattle.listing.specs.Listing.{longest_line, longest_answer}
@@ -26,6 +27,11 @@ nodes_left (fault number offset) before = before
 
 abbrev pub printing : ℕ → ℕ → Printing
 printing number size = record { refusal = refusal number; length = size }
+
+-- the numbers of a result of `printed` [9.13, 12.13]
+abbrev pub printing_of : Result ℕ Refused → Printing
+printing_of (Ok size) = printing 0 size
+printing_of (Err reason) = printing (number_of reason) 0
 
 -- A file's refusal stands in the text and not in the number that is returned: with a number of 1 to 5 the bytes would have to stay as they were. So 0 says that the text stands in the bytes [9.13].
 pub record Prints (file nodes_before nodes_after out_before out_after : List ℕ) (r : Printing) : Type 0 where

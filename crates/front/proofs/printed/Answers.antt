@@ -1,25 +1,32 @@
 -- `printed` meets its contract: one law for each way to an answer.
-use Rattle.front.proofs.Outcomes.{prints-no-nodes, number_small, prints-refused, prints-no-bytes, prints-listed}
+use Rattle.std.proofs.Common.{ap, refl}
+use Rattle.automaton.specs.Refusals.{number_of}
+use Rattle.automaton.proofs.Refusing.{number-some}
+use Rattle.automaton.proofs.Handing.{number-short}
+use Rattle.elimination.specs.Answers.{refused_whole}
+use Rattle.front.proofs.Outcomes.{prints-no-nodes, prints-refused, prints-no-bytes, prints-listed}
 use Rattle.front.proofs.printed.Goals as goal
 
-pub returns-then-number-eq-SHORT : goal.returns-then-number-eq-SHORT
-returns-then-number-eq-SHORT c = prints-no-nodes c.args.file.now c.args.nodes.now c.convert-made.new.nodes c.convert-made.result c.convert-made.ensures c.args.out.now c.if-number-eq-SHORT.true
+pub returns-in_default : goal.returns-in_default
+returns-in_default c =
+    prints-no-bytes c.args.file.now c.args.nodes.now c.convert.new.nodes _ c.in-Ok.ensures refl
+    c.args.out.now c.list.new.out _ c.in_default.ensures
+    c.zero.new.words c.zero.ensures c.convert.auto.nodes (number-some c.in_default.field-0)
 
-pub refuse-requires : goal.refuse-requires
-refuse-requires c = number_small c.args.file.now c.args.nodes.now c.convert-made.new.nodes c.convert-made.result c.convert-made.ensures c.if-number-ne0.true c.if-number-eq-SHORT.false
+pub returns-in-Ok-list : goal.returns-in-Ok-list
+returns-in-Ok-list c =
+    prints-listed c.args.file.now c.args.nodes.now c.convert.new.nodes _ c.in-Ok.ensures refl
+    c.args.out.now c.list.new.out _ c.in-Ok-list.ensures refl
 
-pub returns-then-number-ne0 : goal.returns-then-number-ne0
-returns-then-number-ne0 c =
-    prints-refused c.args.file.now c.args.nodes.now c.convert-made.new.nodes c.convert-made.result c.convert-made.ensures c.if-number-ne0.true c.if-number-eq-SHORT.false
-    c.refuse.new.nodes c.args.out.now c.refuse.new.out c.refuse.result c.refuse.ensures
+pub returns-in-Short : goal.returns-in-Short
+unfolding refused_whole
+returns-in-Short c =
+    let six = ap number_of c.in-Short.is in
+    rw c.in-Short.is (prints-no-nodes c.args.file.now c.args.nodes.now c.convert.new.nodes _ c.in-Err.ensures c.args.out.now six)
 
-pub returns-then-listed-ne0 : goal.returns-then-listed-ne0
-returns-then-listed-ne0 c =
-    prints-no-bytes c.args.file.now c.args.nodes.now c.convert-made.new.nodes c.convert-made.result c.convert-made.ensures c.if-number-ne0.false
-    c.args.out.now c.list-listed.new.out c.list-listed.result c.list-listed.ensures
-    c.zero.new.words c.zero.ensures c.convert-made.auto.nodes c.if-listed-ne0.true
-
-pub returns : goal.returns
-returns c =
-    prints-listed c.args.file.now c.args.nodes.now c.convert-made.new.nodes c.convert-made.result c.convert-made.ensures c.if-number-ne0.false
-    c.args.out.now c.list-listed.new.out c.list-listed.result c.list-listed.ensures c.if-listed-ne0.false
+pub returns-in_default-reason : goal.returns-in_default-reason
+unfolding refused_whole
+returns-in_default-reason c =
+    let reason = c.in-Err.reason in
+    prints-refused c.args.file.now c.args.nodes.now c.convert.new.nodes _ c.in-Err.ensures (number-some reason) (λ six. c.in_default-reason.not-Short (number-short reason six))
+    c.refuse.new.nodes c.args.out.now c.refuse.new.out _ c.refuse.ensures

@@ -1,32 +1,6 @@
--- `text::put_refused` meets its contract: ten stores, one after the other.
-use native.Mathlib.Omega.{arith}
-use lib.ListN.{length-set}
+use Rattle.std.proofs.Common.{List, ℕ, ◌++◌, drop, ap, ◌∙◌}
 use Rattle.front.proofs.Refused.{refused-there}
 use Rattle.front.proofs.text.put_refused.Goals as goal
 
-pub bounds-out-1 : goal.bounds-out-1
-bounds-out-1 c = simp length-set (omega arith)
-
-pub bounds-out-2 : goal.bounds-out-2
-bounds-out-2 c = simp length-set (omega arith)
-
-pub bounds-out-3 : goal.bounds-out-3
-bounds-out-3 c = simp length-set (omega arith)
-
-pub bounds-out-4 : goal.bounds-out-4
-bounds-out-4 c = simp length-set (omega arith)
-
-pub bounds-out-5 : goal.bounds-out-5
-bounds-out-5 c = simp length-set (omega arith)
-
-pub bounds-out-6 : goal.bounds-out-6
-bounds-out-6 c = simp length-set (omega arith)
-
-pub bounds-out-7 : goal.bounds-out-7
-bounds-out-7 c = simp length-set (omega arith)
-
-pub bounds-out-8 : goal.bounds-out-8
-bounds-out-8 c = simp length-set (omega arith)
-
 pub returns : goal.returns
-returns c = refused-there c.args.out.now c.args.number c.requires.number_bound c.requires.in_bounds
+returns c = ap (λ (line : List ℕ). line ++ drop 10 c.args.out.now) (c.copy_from_slice.ensures.after ∙ refused-there c.args.reason)
