@@ -1,241 +1,164 @@
-// The cases that take a draft's file, in the order of their lines.
-ghost use Rattle.std.specs.Prelude.{◌<◌};
-ghost use Rattle.worked.specs.Lent.{Words, Bytes};
+// The cases, in the order of their lines.
+use crate::conversions::{partly, printed, wholly};
+use crate::drafts::{
+    AFTER, CHAINS, CUT, ENDED, ENDLESS, FINALLESS, LONG, MANY, NESTED, NO_BYTES, P, PAIRS, ROWLESS,
+    UNREACHED,
+};
+use crate::runs::{productive, run, run_chain};
+use crate::say::{LENT, LENT_BYTE};
+use crate::state_sets::said;
+use crate::tables::{
+    EMPTY, changed, hole, iteration, leaf, list, make, measure, measure_doubled, sound, table_of_p,
+};
+use crate::values::{read, write};
+use expressions::Shape;
+use sets::StateSet;
 
-use crate::{conversions, files, printing, runs, texts, values};
+pub fn p_converted() {
+    // Whole, in just enough room, a word less, and some more.
+    wholly(&P, &mut [LENT; 60]);
+    wholly(&P, &mut [LENT; 59]);
+    wholly(&P, &mut [LENT; 67]);
+    wholly(&P, &mut [LENT; 0]);
+    // After one state; after none and all of them too, and one more than there are states.
+    partly(&P, 0, &mut [LENT; 36]);
+    partly(&P, 1, &mut [LENT; 60]);
+    partly(&P, 2, &mut [LENT; 60]);
+    partly(&P, 3, &mut [LENT; 60]);
+    partly(&P, 0, &mut [LENT; 35]);
+    partly(&P, 1, &mut [LENT; 47]);
+    partly(&P, u32::MAX, &mut [LENT; 0])
+}
 
-// A case is one number, a sum: what is done, with which draft, how many words and bytes are lent, and last a number below 2^32. Of a tree it is its number in runs.rt; of a chain so many symbols are left out.
-const STATES: usize = 1;
+pub fn others_converted() {
+    wholly(&PAIRS, &mut [LENT; 48]);
+    wholly(&NESTED, &mut [LENT; 36]);
+    wholly(&ENDLESS, &mut [LENT; 30]);
+    wholly(&UNREACHED, &mut [LENT; 60]);
+    wholly(&ROWLESS, &mut [LENT; 12]);
+    partly(&ROWLESS, 1, &mut [LENT; 12]);
+    wholly(&FINALLESS, &mut [LENT; 18])
+}
 
-const BYTES: usize = 4294967296;
-
-const WORDS: usize = 131 * BYTES;
-
-const LEFT_OUT: usize = WORDS;
-
-const SIZE: usize = 68 * WORDS;
-
-const DRAFT: usize = 47 * SIZE;
-
-const TASK: usize = 14 * DRAFT;
-
-const CONVERT: usize = texts::CONVERT * TASK;
-
-const CONVERT_PARTLY: usize = texts::CONVERT_PARTLY * TASK;
-
-const RUN: usize = texts::RUN * TASK;
-
-const RUN_CHAIN: usize = texts::RUN_CHAIN * TASK;
-
-const PRODUCTIVE: usize = texts::PRODUCTIVE * TASK;
-
-const READ: usize = texts::READ * TASK;
-
-const WRITE: usize = texts::WRITE * TASK;
-
-const PRINT: usize = texts::PRINT * TASK;
-
-// A draft comes with the size of its file.
-const P: usize = texts::P * DRAFT + 43 * SIZE;
-
-const PAIRS: usize = texts::PAIRS * DRAFT + 46 * SIZE;
-
-const NESTED: usize = texts::NESTED * DRAFT + 35 * SIZE;
-
-const ENDLESS: usize = texts::ENDLESS * DRAFT + 23 * SIZE;
-
-const ROWLESS: usize = texts::ROWLESS * DRAFT + 16 * SIZE;
-
-const FINALLESS: usize = texts::FINALLESS * DRAFT + 22 * SIZE;
-
-const UNREACHED: usize = texts::UNREACHED * DRAFT + 46 * SIZE;
-
-const CHAINS: usize = texts::CHAINS * DRAFT + 34 * SIZE;
-
-const CUT: usize = texts::CUT * DRAFT + 42 * SIZE;
-
-const NO_BYTES: usize = texts::NO_BYTES * DRAFT + 0 * SIZE;
-
-const ENDED: usize = texts::ENDED * DRAFT + 4 * SIZE;
-
-const LONG: usize = texts::LONG * DRAFT + 8 * SIZE;
-
-const MANY: usize = texts::MANY * DRAFT + 7 * SIZE;
-
-const AFTER: usize = texts::AFTER * DRAFT + 44 * SIZE;
-
-// A tree comes with how many symbols it has.
-const TREE_NONE: usize = 0 * BYTES + 0;
-
-const TREE_0: usize = 1 * BYTES + 1;
-
-const TREE_2: usize = 1 * BYTES + 2;
-
-const TREE_00: usize = 2 * BYTES + 3;
-
-const TREE_10: usize = 2 * BYTES + 4;
-
-const TREE_20: usize = 2 * BYTES + 5;
-
-const TREE_100: usize = 3 * BYTES + 6;
-
-const TREE_200: usize = 3 * BYTES + 7;
-
-const TREE_201: usize = 3 * BYTES + 8;
-
-const TREE_210: usize = 3 * BYTES + 9;
-
-const TREE_211: usize = 3 * BYTES + 10;
-
-const TREE_10100: usize = 5 * BYTES + 11;
-
-const TREE_11000: usize = 5 * BYTES + 12;
-
-const TREE_22000: usize = 5 * BYTES + 13;
-
-const COUNT: usize = 90;
-
-const CASES: [usize; COUNT] = [
-    // P whole, in just enough room, a word less, and some more.
-    CONVERT + P + 60 * WORDS,
-    CONVERT + P + 59 * WORDS,
-    CONVERT + P + 67 * WORDS,
-    CONVERT + P + 0 * WORDS,
-    // P after one state; after none and all of them too, and one more than there are states.
-    CONVERT_PARTLY + P + 36 * WORDS + 0 * STATES,
-    CONVERT_PARTLY + P + 60 * WORDS + 1 * STATES,
-    CONVERT_PARTLY + P + 60 * WORDS + 2 * STATES,
-    CONVERT_PARTLY + P + 60 * WORDS + 3 * STATES,
-    CONVERT_PARTLY + P + 35 * WORDS + 0 * STATES,
-    CONVERT_PARTLY + P + 47 * WORDS + 1 * STATES,
-    CONVERT_PARTLY + P + 0 * WORDS + 4294967295 * STATES,
-    // The other drafts.
-    CONVERT + PAIRS + 48 * WORDS,
-    CONVERT + NESTED + 36 * WORDS,
-    CONVERT + ENDLESS + 30 * WORDS,
-    CONVERT + UNREACHED + 60 * WORDS,
-    CONVERT + ROWLESS + 12 * WORDS,
-    CONVERT_PARTLY + ROWLESS + 12 * WORDS + 1 * STATES,
-    CONVERT + FINALLESS + 18 * WORDS,
-    // Runs of P, and words that are no tree.
-    RUN + P + TREE_100,
-    RUN + P + TREE_11000,
-    RUN + P + TREE_10100,
-    RUN + P + TREE_0,
-    RUN + P + TREE_10,
-    RUN + P + TREE_00,
-    RUN + P + TREE_NONE,
-    RUN + P + TREE_2,
-    // Trees of the others.
-    RUN + PAIRS + TREE_200,
-    RUN + PAIRS + TREE_201,
-    RUN + PAIRS + TREE_210,
-    RUN + PAIRS + TREE_211,
-    RUN + PAIRS + TREE_22000,
-    RUN + NESTED + TREE_11000,
-    RUN + UNREACHED + TREE_20,
-    RUN + UNREACHED + TREE_10,
+pub fn trees_run() {
+    // Of P, also words that are no tree.
+    run(&P, &[1, 0, 0]);
+    run(&P, &[1, 1, 0, 0, 0]);
+    run(&P, &[1, 0, 1, 0, 0]);
+    run(&P, &[0]);
+    run(&P, &[1, 0]);
+    run(&P, &[0, 0]);
+    run(&P, &[]);
+    run(&P, &[2]);
+    // Of the others.
+    run(&PAIRS, &[2, 0, 0]);
+    run(&PAIRS, &[2, 0, 1]);
+    run(&PAIRS, &[2, 1, 0]);
+    run(&PAIRS, &[2, 1, 1]);
+    run(&PAIRS, &[2, 2, 0, 0, 0]);
+    run(&NESTED, &[1, 1, 0, 0, 0]);
+    run(&UNREACHED, &[2, 0]);
+    run(&UNREACHED, &[1, 0]);
     // The longest tree, and one symbol more.
-    RUN_CHAIN + CHAINS + 1 * LEFT_OUT,
-    RUN_CHAIN + CHAINS + 0 * LEFT_OUT,
-    // The productive states.
-    PRODUCTIVE + P,
-    PRODUCTIVE + ENDLESS,
-    PRODUCTIVE + ROWLESS,
-    PRODUCTIVE + FINALLESS,
-    PRODUCTIVE + UNREACHED,
-    // Files read, and P written, also with other numbers of states.
-    READ + P,
-    READ + ROWLESS,
-    READ + UNREACHED,
-    WRITE + P + 43 * BYTES + 2 * STATES,
-    WRITE + P + 42 * BYTES + 2 * STATES,
-    WRITE + P + 45 * BYTES + 2 * STATES,
-    WRITE + P + 43 * BYTES + 1 * STATES,
-    WRITE + P + 2 * BYTES + 17 * STATES,
-    // Files that are refused, at every entry that takes one.
-    READ + CUT,
-    RUN + CUT + TREE_0,
-    PRODUCTIVE + CUT,
-    CONVERT + CUT + 6 * WORDS,
-    CONVERT_PARTLY + CUT + 6 * WORDS + 0 * STATES,
-    PRINT + CUT + 6 * WORDS + 12 * BYTES,
-    READ + NO_BYTES,
-    RUN + NO_BYTES + TREE_0,
-    PRODUCTIVE + NO_BYTES,
-    CONVERT + NO_BYTES + 6 * WORDS,
-    CONVERT_PARTLY + NO_BYTES + 6 * WORDS + 0 * STATES,
-    PRINT + NO_BYTES + 6 * WORDS + 12 * BYTES,
-    READ + ENDED,
-    RUN + ENDED + TREE_0,
-    PRODUCTIVE + ENDED,
-    CONVERT + ENDED + 6 * WORDS,
-    CONVERT_PARTLY + ENDED + 6 * WORDS + 0 * STATES,
-    PRINT + ENDED + 6 * WORDS + 12 * BYTES,
-    READ + LONG,
-    RUN + LONG + TREE_0,
-    PRODUCTIVE + LONG,
-    CONVERT + LONG + 6 * WORDS,
-    CONVERT_PARTLY + LONG + 6 * WORDS + 0 * STATES,
-    PRINT + LONG + 6 * WORDS + 12 * BYTES,
-    READ + MANY,
-    RUN + MANY + TREE_0,
-    PRODUCTIVE + MANY,
-    CONVERT + MANY + 6 * WORDS,
-    CONVERT_PARTLY + MANY + 6 * WORDS + 0 * STATES,
-    PRINT + MANY + 6 * WORDS + 12 * BYTES,
-    READ + AFTER,
-    RUN + AFTER + TREE_0,
-    PRODUCTIVE + AFTER,
-    CONVERT + AFTER + 6 * WORDS,
-    CONVERT_PARTLY + AFTER + 6 * WORDS + 0 * STATES,
-    PRINT + AFTER + 6 * WORDS + 12 * BYTES,
-    // What the program prints.
-    PRINT + P + 60 * WORDS + 130 * BYTES,
-    PRINT + P + 59 * WORDS + 130 * BYTES,
-    PRINT + P + 60 * WORDS + 122 * BYTES,
-    PRINT + ROWLESS + 13 * WORDS + 26 * BYTES,
-    PRINT + CUT + 6 * WORDS + 9 * BYTES,
-];
+    let mut chain = [1; 4097];
+    chain[4096] = 0;
+    run_chain(&CHAINS, &chain[1..]);
+    run_chain(&CHAINS, &chain)
+}
 
-pub fn all() {
-    let mut i: usize = 0;
-    while i < COUNT {
-        let case = CASES[i];
-        i += 1;
-        open(
-            case / TASK,
-            case / DRAFT % 14,
-            case / SIZE % 47,
-            case / WORDS % 68,
-            case / BYTES % 131,
-            (case % BYTES) as u32,
-        );
+pub fn productive_states() {
+    for draft in &[P, ENDLESS, ROWLESS, FINALLESS, UNREACHED] {
+        productive(draft)
     }
 }
 
-// The beginning of a case's line, and its file.
-fn open(task: usize, draft: usize, size: usize, room: usize, length: usize, number: u32)
-    requires { ((draft < 14) × (size < 47)) × (Words room × Bytes length) }
-{
-    texts::plain(task);
-    texts::plain(draft);
-    let start = 46 * draft;
-    let end = start + size;
-    perform(task, &files::ALL[start..end], room, length, number)
+// P is written with other numbers of states too.
+pub fn files_read_and_written() {
+    read(&P);
+    read(&ROWLESS);
+    read(&UNREACHED);
+    write(&P, 2, &mut [LENT_BYTE; 43]);
+    write(&P, 2, &mut [LENT_BYTE; 42]);
+    write(&P, 2, &mut [LENT_BYTE; 45]);
+    write(&P, 1, &mut [LENT_BYTE; 43]);
+    write(&P, 17, &mut [LENT_BYTE; 2])
 }
 
-fn perform(task: usize, file: &[u8], room: usize, length: usize, number: u32)
-    requires { Words room × Bytes length }
-{
-    match task {
-        texts::CONVERT => conversions::wholly(file, room),
-        texts::CONVERT_PARTLY => conversions::partly(file, number, room),
-        texts::RUN => runs::run(file, number as usize % 14, length % 6),
-        texts::RUN_CHAIN => runs::run_chain(file, room),
-        texts::PRODUCTIVE => runs::productive(file),
-        texts::READ => values::read(file),
-        texts::WRITE => values::write(file, number, length),
-        _ => printing::printed(file, room, length),
+// Refused at every entry that takes a file.
+pub fn files_refused() {
+    for draft in &[CUT, NO_BYTES, ENDED, LONG, MANY, AFTER] {
+        read(draft);
+        run(draft, &[0]);
+        productive(draft);
+        wholly(draft, &mut [LENT; 6]);
+        partly(draft, 0, &mut [LENT; 6]);
+        printed(draft, &mut [LENT; 6], &mut [LENT_BYTE; 12])
     }
+}
+
+pub fn texts_printed() {
+    printed(&P, &mut [LENT; 60], &mut [LENT_BYTE; 130]);
+    printed(&P, &mut [LENT; 59], &mut [LENT_BYTE; 130]);
+    printed(&P, &mut [LENT; 60], &mut [LENT_BYTE; 122]);
+    printed(&ROWLESS, &mut [LENT; 13], &mut [LENT_BYTE; 26]);
+    printed(&CUT, &mut [LENT; 6], &mut [LENT_BYTE; 9])
+}
+
+pub fn nodes_made() {
+    make("empty", &mut [LENT; 6], 0, EMPTY);
+    make("hole 3", &mut [LENT; 13], 1, hole(3));
+    make("hole 15", &mut [LENT; 6], 0, hole(15));
+    make("symbol 31", &mut [LENT; 6], 0, leaf(31));
+    make("hole 3", &mut [LENT; 13], 2, hole(3));
+    make("hole 3", &mut [LENT; 13], 4096, hole(3));
+    make("hole 16", &mut [LENT; 6], 0, hole(16));
+    make("kind 6", &mut [LENT; 6], 0, Shape { kind: 6, ..EMPTY });
+    make("symbol 32", &mut [LENT; 6], 0, leaf(32));
+    let childless = iteration(0, 0);
+    make("a child that is not there", &mut [LENT; 6], 0, childless);
+    let unused = Shape {
+        first: 1,
+        ..hole(3)
+    };
+    make("a child that is not used", &mut [LENT; 12], 1, unused)
+}
+
+// The last node's words, from 54 on, are its kind, its label, three children and its open set.
+pub fn tables_checked() {
+    let table = table_of_p();
+    sound("P", &table, 10, 9);
+    sound("P", &table, 3, 2);
+    sound("P", &table, 10, 10);
+    sound("P", &table, 11, 9);
+    sound("P", &table, 0, 0);
+    sound("P", &table, usize::MAX, 9);
+    sound("P with kind 6", &changed(54, 6), 10, 9);
+    sound("P with state 16", &changed(55, 16), 10, 9);
+    sound("P with child 9 of 9", &changed(56, 9), 10, 9);
+    sound("P with an unused child", &changed(58, 1), 10, 9);
+    sound("P with an open state too many", &changed(59, 1), 10, 9);
+    sound("P with a bit past the sets", &changed(59, 65536), 10, 9)
+}
+
+// At the end of the measured ones the largest sizes that are counted, and the first that is held.
+pub fn tables_measured_and_listed() {
+    measure(10, 9, &mut [LENT; 12]);
+    measure(10, 9, &mut [LENT; 9]);
+    measure(10, 10, &mut [LENT; 9]);
+    measure_doubled(30);
+    measure_doubled(31);
+    measure_doubled(32);
+    list(10, 9, &mut [LENT_BYTE; 125]);
+    list(10, 9, &mut [LENT_BYTE; 122]);
+    list(10, 10, &mut [LENT_BYTE; 4])
+}
+
+pub fn sets_said() {
+    said("set of none", StateSet::empty());
+    said("set of 0", StateSet::one(0));
+    said("set of 15", StateSet::one(15));
+    said("set of 16", StateSet::one(16));
+    let three = StateSet::one(3);
+    said("union of 3 and 15", three.union(StateSet::one(15)));
+    said("union of 3 and 16", three.union(StateSet::one(16)))
 }
