@@ -4,7 +4,6 @@ use crate::say::{Left, Say, Shown, say};
 use crate::tables;
 use elimination::{ListRow, Wholly};
 
-// All of the draft's conversion that a line or a table is made of.
 pub fn convert(draft: &Draft, words: &mut [u32]) -> Wholly {
     elimination::convert(draft.file, words)
 }
@@ -14,14 +13,8 @@ pub fn wholly(draft: &Draft, words: &mut [u32]) {
     say!("convert ", draft.name, " in ", words.len(), " words: ");
     let made = convert(draft, words);
     let measured = tables::measured(words, made.nodes, made.answer, &mut [0; 16]);
-    say!(
-        made.refusal,
-        ", ",
-        made.nodes,
-        " nodes, answer ",
-        made.answer
-    );
-    say!(", size ", measured.size, Left(words), "\n")
+    say!(made.refusal, ", ", made.nodes, " nodes, answer ");
+    say!(made.answer, ", size ", measured.size, Left(words), "\n")
 }
 
 impl Say for ListRow {
@@ -49,10 +42,9 @@ pub fn partly(draft: &Draft, states: u32, words: &mut [u32]) {
     say!(Left(words), "\n")
 }
 
-// What the program `convert` prints, in these words and bytes.
+// What the program `convert` prints for the file, in these words and bytes.
 pub fn printed(draft: &Draft, words: &mut [u32], out: &mut [u8]) {
-    say!("printed ", draft.name, ": ");
     let printing = front::printed(draft.file, words, out);
-    say!(printing.refusal, ", length ", printing.length, ", text ");
-    say!(Shown(out), Left(words), "\n")
+    say!("printed ", draft.name, ": ", printing.refusal, ", length ");
+    say!(printing.length, ", text ", Shown(out), Left(words), "\n")
 }

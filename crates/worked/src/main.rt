@@ -13,13 +13,17 @@ mod values;
 fn main() {
     cases::p_converted();
     cases::others_converted();
-    cases::trees_run();
+    cases::p_run();
+    cases::others_run();
+    cases::chains_run();
     cases::productive_states();
     cases::files_read_and_written();
     cases::files_refused();
     cases::texts_printed();
     cases::nodes_made();
-    cases::tables_checked();
-    cases::tables_measured_and_listed();
-    cases::sets_said()
+    cases::p_checked();
+    cases::changes_checked();
+    cases::sizes_measured();
+    cases::p_listed();
+    cases::sets_told()
 }

@@ -1,15 +1,17 @@
-// Standard output, and what stands in a line.
-// The lines do not go through `write!`, which hands over a text in one piece and a number digit by digit: where a write fails in between, other bytes would be missing than always were.
+// Standard output, and the pieces that a line is put together from.
+// This is no `fmt::Write` for `write!`: that could not tell a text, whose bytes are written one by one, from a number, whose digits are written together, and what is missing where a write fails may not change (docs/DECISIONS.md, "Today's kit").
 use automaton::Refusal;
 use sets::StateSet;
 
 // The descriptor of standard output.
 const STDOUT_FILENO: i32 = 1;
 
-// What words and bytes are lent with. No table of the drafts has that word.
+// What words and bytes are lent with. No table of the drafts has such a word, and no text such a byte.
 pub const LENT: u32 = 1234567;
 
 pub const LENT_BYTE: u8 = 255;
+
+const STATES: u32 = sets::MOST_STATES as u32;
 
 // What can be a piece of a line.
 pub trait Say {
@@ -25,12 +27,11 @@ macro_rules! say {
 
 pub(crate) use say;
 
-// A byte that cannot be written is left out, and the next one is tried.
+// Where a byte cannot be written, the next one is tried all the same.
 fn byte(byte: u8) {
     io::write_all(STDOUT_FILENO, &[byte]);
 }
 
-// A number's digits are written as one piece.
 fn number(n: u64) {
     io::print_decimal(STDOUT_FILENO, n);
 }
@@ -43,6 +44,7 @@ impl Say for &str {
     }
 }
 
+// The numbers have an impl each, since `rt verdict` refuses impls that a macro of the crate writes.
 impl Say for u8 {
     fn say(&self) {
         number(u64::from(*self))
@@ -81,8 +83,6 @@ impl Say for Refusal {
         }
     }
 }
-
-const STATES: u32 = sets::MOST_STATES as u32;
 
 // The states of a set, as {0 1}.
 impl Say for StateSet {

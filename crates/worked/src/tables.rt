@@ -5,7 +5,7 @@ use crate::conversions;
 use crate::drafts::P;
 use crate::say::{Shown, Spaced, say};
 use automaton::Refusal;
-use expressions::{Measured, Shape};
+use expressions::{ARITY_STEP, Measured, Shape};
 
 pub const EMPTY: Shape = Shape {
     kind: 0,
@@ -23,7 +23,7 @@ pub fn hole(state: u32) -> Shape {
     }
 }
 
-// A symbol without children.
+// A symbol that takes no children.
 pub fn leaf(symbol: u32) -> Shape {
     Shape {
         kind: 2,
@@ -32,7 +32,16 @@ pub fn leaf(symbol: u32) -> Shape {
     }
 }
 
-// An iteration over a node.
+// A symbol over one node twice.
+fn pair(symbol: u8, child: u32) -> Shape {
+    Shape {
+        label: u32::from(symbol) + 2 * ARITY_STEP,
+        first: child,
+        second: child,
+        ..leaf(0)
+    }
+}
+
 pub fn iteration(state: u32, child: u32) -> Shape {
     Shape {
         kind: 5,
@@ -42,17 +51,16 @@ pub fn iteration(state: u32, child: u32) -> Shape {
     }
 }
 
-// The node of this shape, as the next of a table of so many.
+// The node of this shape, put after so many.
 fn put(words: &mut [u32], count: usize, shape: Shape) -> Refusal {
-    expressions::make(
-        words,
-        count,
-        shape.kind,
-        shape.label,
-        shape.first,
-        shape.second,
-        shape.third,
-    )
+    let Shape {
+        kind,
+        label,
+        first,
+        second,
+        third,
+    } = shape;
+    expressions::make(words, count, kind, label, first, second, third)
 }
 
 // One node put at this number into the words.
@@ -62,24 +70,24 @@ pub fn make(name: &str, words: &mut [u32], count: usize, shape: Shape) {
     say!(", words", Spaced(words), "\n")
 }
 
-// P's table in sixty words.
-pub fn table_of_p() -> [u32; 60] {
+// P's table, in just enough words.
+pub fn of_p() -> [u32; 60] {
     let mut words = [0; 60];
     conversions::convert(&P, &mut words);
     words
 }
 
-// P's table with another word at this place.
+// P's table with this word at this place.
 pub fn changed(place: usize, word: u32) -> [u32; 60]
     requires { place < 60 }
 {
-    let mut words = table_of_p();
+    let mut words = of_p();
     words[place] = word;
     words
 }
 
 // Are the words a sound table?
-pub fn sound(name: &str, words: &[u32], count: usize, answer: usize) {
+pub fn check(name: &str, words: &[u32], count: usize, answer: usize) {
     let yes = expressions::is_sound(words, count, answer);
     say!("sound ", name, ", count ", count, ", answer ", answer);
     say!(": ", yes, "\n")
@@ -91,34 +99,29 @@ pub fn measured(words: &[u32], count: usize, answer: usize, scratch: &mut [u32])
 
 // P's table measured with these words lent.
 pub fn measure(count: usize, answer: usize, scratch: &mut [u32]) {
-    let measured = measured(&table_of_p(), count, answer, scratch);
+    let measured = measured(&of_p(), count, answer, scratch);
     say!("measure P, count ", count, ", answer ", answer, ": ");
     say!(measured.refusal, ", size ", measured.size);
     say!(", scratch", Spaced(scratch), "\n")
 }
 
-// The size of the last node after so many, each a symbol of two children, both the node before: sizes 1, 3, 7 and so on.
+// The size of the last node, where each from 1 on is a symbol over the node before, twice: sizes 1, 3, 7 and so on.
 pub fn measure_doubled(last: u32) {
     let mut words = [0; 198];
     put(&mut words, 0, leaf(0));
     for before in 0..last {
-        let pair = Shape {
-            label: 513,
-            first: before,
-            second: before,
-            ..leaf(1)
-        };
-        put(&mut words, before as usize + 1, pair);
+        put(&mut words, before as usize + 1, pair(1, before));
     }
-    let nodes = last as usize + 1;
-    let measured = measured(&words, nodes, last as usize, &mut [0; 33]);
+    let answer = last as usize;
+    let nodes = answer + 1;
+    let measured = measured(&words, nodes, answer, &mut [0; 33]);
     say!("measure ", nodes, " nodes, each twice in the next: ");
     say!(measured.refusal, ", size ", measured.size, "\n")
 }
 
 // P's table listed in these bytes.
 pub fn list(count: usize, answer: usize, out: &mut [u8]) {
-    let listed = listing::list(&table_of_p(), count, answer, out);
+    let listed = listing::list(&of_p(), count, answer, out);
     say!("list P, count ", count, ", answer ", answer, ": ");
     say!(listed.refusal, ", length ", listed.length);
     say!(", text ", Shown(out), "\n")

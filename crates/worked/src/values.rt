@@ -7,18 +7,16 @@ fn reading(draft: &Draft) -> Reading {
     automaton::read(draft.file)
 }
 
-// How many sources a row has: the arity of its symbol.
-fn arity(value: &Automaton, row: &Row) -> usize {
-    value
-        .arities
-        .get(usize::from(row.symbol))
-        .map_or(0, |arity| usize::from(*arity))
+fn arities(value: &Automaton) {
+    for arity in value.arities.iter().take(usize::from(value.symbols)) {
+        say!(" ", *arity)
+    }
 }
 
-// A row with so many sources.
-fn row(row: &Row, arity: usize) {
+// A row, with as many sources as its symbol's arity.
+fn row(row: &Row, arity: u8) {
     say!(", ", row.symbol, "(");
-    for (i, source) in row.sources.iter().take(arity).enumerate() {
+    for (i, source) in row.sources.iter().take(usize::from(arity)).enumerate() {
         if i > 0 {
             say!(" ")
         }
@@ -27,19 +25,23 @@ fn row(row: &Row, arity: usize) {
     say!(") to ", row.target)
 }
 
+// Each row of a file that was read is of a symbol with an arity.
+fn rows(value: &Automaton) {
+    for rule in value.rows.iter().take(usize::from(value.count)) {
+        let arity = value.arities.get(usize::from(rule.symbol));
+        row(rule, arity.copied().unwrap_or(0))
+    }
+}
+
 pub fn read(draft: &Draft) {
     let reading = reading(draft);
     let value = reading.automaton;
     say!("read ", draft.name, ": ", reading.refusal);
     say!(", ", value.states, " states, final ", value.finals);
     say!(", ", value.symbols, " symbols, arities");
-    for arity in value.arities.iter().take(usize::from(value.symbols)) {
-        say!(" ", *arity)
-    }
+    arities(&value);
     say!(", ", value.count, " rows");
-    for rule in value.rows.iter().take(usize::from(value.count)) {
-        row(rule, arity(&value, rule))
-    }
+    rows(&value);
     say!("\n")
 }
 
