@@ -1,69 +1,50 @@
-// The drafts converted, wholly and partly.
-ghost use Rattle.worked.specs.Lent.{Words};
+// Drafts converted: wholly, partly, and to the text that is printed.
+use crate::drafts::Draft;
+use crate::say::{Left, Say, Shown, say};
+use crate::tables;
+use elimination::{ListRow, Wholly};
 
-use crate::{say, texts};
-use elimination::{LIST_PLACES, ListRow};
-
-// The written-out size of a table's answer.
-fn size(words: [u32; 67], nodes: usize, answer: usize) -> usize {
-    let r = expressions::measure(&words, nodes, answer, &mut [0; 16]);
-    r.size as usize
+pub fn convert(draft: &Draft, words: &mut [u32]) -> Wholly {
+    elimination::convert(draft.file, words)
 }
 
-// A conversion into so many words, and the written-out size of its answer.
-pub fn wholly(file: &[u8], room: usize)
-    requires { Words room }
-{
-    let mut words = [1234567u32; 67];
-    let r = elimination::convert(file, &mut words[..room]);
-    let size = size(words, r.nodes, r.answer);
-    texts::write(
-        texts::CONVERTED,
-        r.refusal.number,
-        room,
-        r.nodes,
-        r.answer,
-        size,
-        0,
-    );
-    say::left(words, room)
+// A conversion into the words, and the written-out size of its answer.
+pub fn wholly(draft: &Draft, words: &mut [u32]) {
+    say!("convert ", draft.name, " in ", words.len(), " words: ");
+    let made = convert(draft, words);
+    let measured = tables::measured(words, made.nodes, made.answer, &mut [0; 16]);
+    say!(made.refusal, ", ", made.nodes, " nodes, answer ");
+    say!(made.answer, ", size ", measured.size, Left(words), "\n")
 }
 
-fn rows(list: [ListRow; LIST_PLACES], count: usize) {
-    let mut i: usize = 0;
-    while i < LIST_PLACES {
-        if i < count {
-            let r = list[i];
-            texts::write(
-                texts::LIST_ROW,
-                0,
-                r.node as usize,
-                r.target as usize,
-                r.waits as usize,
-                0,
-                0,
-            );
-        }
-        i += 1;
+impl Say for ListRow {
+    fn say(&self) {
+        say!(", ", self.node, " to ", self.target, " waits ", self.waits)
     }
 }
 
-// A conversion of the first so many states into so many words.
-pub fn partly(file: &[u8], states: u32, room: usize)
-    requires { Words room }
-{
-    let mut words = [1234567u32; 67];
-    let r = elimination::convert_partly(file, states, &mut words[..room]);
-    texts::write(
-        texts::CONVERTED_PARTLY,
-        r.refusal.number,
-        states as usize,
-        room,
-        r.nodes,
-        r.rows,
-        0,
+// A conversion of the first so many states into the words.
+pub fn partly(draft: &Draft, states: u32, words: &mut [u32]) {
+    say!("convert ", draft.name, " by ", states, " states in ");
+    say!(words.len(), " words: ");
+    let made = elimination::convert_partly(draft.file, states, words);
+    say!(
+        made.refusal,
+        ", ",
+        made.nodes,
+        " nodes, ",
+        made.rows,
+        " rows"
     );
-    let list = r.list;
-    rows(list, r.rows);
-    say::left(words, room)
+    for row in made.list.iter().take(made.rows) {
+        say!(*row)
+    }
+    say!(Left(words), "\n")
+}
+
+// What the program `convert` prints for the file, in these words and bytes.
+pub fn printed(draft: &Draft, words: &mut [u32], out: &mut [u8]) {
+    let printing = front::printed(draft.file, words, out);
+    say!("printed ", draft.name, ": ", printing.refusal, ", length ");
+    say!(printing.length, ", text ", Shown(out), Left(words), "\n")
 }

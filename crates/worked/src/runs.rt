@@ -1,49 +1,27 @@
 // Trees run, and the productive states.
-ghost use Rattle.std.specs.Prelude.{◌≤◌, ◌<◌};
+use crate::drafts::Draft;
+use crate::say::{Spaced, say};
 
-use crate::texts;
-
-// The trees, and words that are none: five words for each, of which it has the first so many.
-const TREES: [u16; 70] = [
-    0, 0, 0, 0, 0, 0, 0, 0, 0, 0, 2, 0, 0, 0, 0, 0, 0, 0, 0, 0, 1, 0, 0, 0, 0, 2, 0, 0, 0, 0, 1, 0,
-    0, 0, 0, 2, 0, 0, 0, 0, 2, 0, 1, 0, 0, 2, 1, 0, 0, 0, 2, 1, 1, 0, 0, 1, 0, 1, 0, 0, 1, 1, 0, 0,
-    0, 2, 2, 0, 0, 0,
-];
-
-// The tree of this number, of so many words.
-pub fn run(file: &[u8], tree: usize, count: usize)
-    requires { (tree < 14) × (count ≤ 5) }
-{
-    texts::plain(texts::ON + tree);
-    let start = 5 * tree;
-    let end = start + count;
-    answer(file, &TREES[start..end])
+// The tree that these symbols are, or symbols that are none.
+pub fn run(draft: &Draft, symbols: &[u16]) {
+    say!("run ", draft.name, " on", Spaced(symbols));
+    outcome(draft, symbols)
 }
 
-// A chain of 4,097 symbols without the first so many: too many to write out.
-pub fn run_chain(file: &[u8], skipped: usize)
-    requires { skipped ≤ 4096 }
-{
-    let mut symbols = [1u16; 4097];
-    symbols[4096] = 0;
-    texts::write(texts::ON_CHAIN, 0, 4097 - skipped, 0, 0, 0, 0);
-    answer(file, &symbols[skipped..])
+// A chain, of too many symbols to write out.
+pub fn run_chain(draft: &Draft, symbols: &[u16]) {
+    say!("run ", draft.name, " on a chain of ", symbols.len());
+    outcome(draft, symbols)
 }
 
-fn answer(file: &[u8], symbols: &[u16]) {
-    let r = trees::run(file, symbols);
-    texts::write(
-        texts::RAN + r.yes as usize % 2,
-        r.refusal.number,
-        0,
-        0,
-        0,
-        0,
-        r.states.0,
-    )
+fn outcome(draft: &Draft, symbols: &[u16]) {
+    let reached = trees::run(draft.file, symbols);
+    say!(": ", reached.refusal, ", ", reached.states);
+    say!(", ", reached.yes, "\n")
 }
 
-pub fn productive(file: &[u8]) {
-    let r = trees::productive(file);
-    texts::write(texts::REACHED, r.refusal.number, 0, 0, 0, 0, r.states.0)
+pub fn productive(draft: &Draft) {
+    let productive = trees::productive(draft.file);
+    say!("productive ", draft.name, ": ", productive.refusal);
+    say!(", ", productive.states, "\n")
 }

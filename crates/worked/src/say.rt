@@ -1,104 +1,141 @@
-// Bytes, numbers and lists of them.
-ghost use Rattle.std.specs.Prelude.{◌≤◌};
-
-use crate::texts;
+// Standard output, and the pieces that a line is put together from.
+// This is no `fmt::Write` for `write!`: that could not tell a text, whose bytes are written one by one, from a number, whose digits are written together, and what is missing where a write fails may not change (docs/DECISIONS.md, "Today's kit").
+use automaton::Refusal;
 use sets::StateSet;
 
 // The descriptor of standard output.
 const STDOUT_FILENO: i32 = 1;
 
-pub fn byte(byte: u8) {
-    io::write_all(STDOUT_FILENO, &[byte]);
-}
+// What words and bytes are lent with. No table of the drafts has such a word, and no text such a byte.
+pub const LENT: u32 = 1234567;
 
-pub fn number(n: usize) {
-    io::print_decimal(STDOUT_FILENO, n as u64);
-}
+pub const LENT_BYTE: u8 = 255;
 
 const STATES: u32 = sets::MOST_STATES as u32;
 
+// What can be a piece of a line.
+pub trait Say {
+    fn say(&self);
+}
+
+// Says the pieces one after the other.
+macro_rules! say {
+    ($($piece:expr),+ $(,)?) => {{
+        $(crate::say::Say::say(&$piece);)+
+    }};
+}
+
+pub(crate) use say;
+
+// Where a byte cannot be written, the next one is tried all the same.
+fn byte(byte: u8) {
+    io::write_all(STDOUT_FILENO, &[byte]);
+}
+
+fn number(n: u64) {
+    io::print_decimal(STDOUT_FILENO, n);
+}
+
+impl Say for &str {
+    fn say(&self) {
+        for b in self.bytes() {
+            byte(b)
+        }
+    }
+}
+
+// The numbers have an impl each, since `rt verdict` refuses impls that a macro of the crate writes.
+impl Say for u8 {
+    fn say(&self) {
+        number(u64::from(*self))
+    }
+}
+
+impl Say for u16 {
+    fn say(&self) {
+        number(u64::from(*self))
+    }
+}
+
+impl Say for u32 {
+    fn say(&self) {
+        number(u64::from(*self))
+    }
+}
+
+impl Say for usize {
+    fn say(&self) {
+        number(*self as u64)
+    }
+}
+
+impl Say for bool {
+    fn say(&self) {
+        say!(if *self { "yes" } else { "no" })
+    }
+}
+
+impl Say for Refusal {
+    fn say(&self) {
+        match self.number {
+            0 => say!("done"),
+            number => say!("refused ", number),
+        }
+    }
+}
+
 // The states of a set, as {0 1}.
-pub fn states(bits: u16) {
-    let set = StateSet(bits);
-    let mut before = b'{';
-    let mut q: u32 = 0;
-    while q < STATES {
-        if set.has(q) {
-            byte(before);
-            number(q as usize);
-            before = b' ';
+impl Say for StateSet {
+    fn say(&self) {
+        say!("{");
+        for (i, q) in (0..STATES).filter(|q| self.has(*q)).enumerate() {
+            if i > 0 {
+                say!(" ")
+            }
+            say!(q)
         }
-        q += 1;
-    }
-    if before == b'{' {
-        byte(before);
-    }
-    byte(b'}')
-}
-
-// A number with a blank before it.
-pub fn spaced(n: u32) {
-    byte(b' ');
-    number(n as usize)
-}
-
-// The first so many words, and the end of the line.
-pub fn words(all: [u32; 13], count: usize)
-    requires { count ≤ 13 }
-{
-    let mut i: usize = 0;
-    while i < count {
-        spaced(all[i]);
-        i += 1;
-    }
-    byte(b'\n')
-}
-
-// A byte as a number, or as a letter of a text in one line: a newline as /, a byte as it was lent as a dot.
-fn shown(shows: u8, letter: bool) {
-    if letter {
-        match shows {
-            b'\n' => byte(b'/'),
-            255 => byte(b'.'),
-            _ => byte(shows),
-        }
-    } else {
-        spaced(shows as u32)
+        say!("}")
     }
 }
 
-// The first so many bytes, as numbers or as a text.
-pub fn bytes(all: [u8; 130], count: usize, letters: bool)
-    requires { count ≤ 130 }
-{
-    let mut i: usize = 0;
-    while i < count {
-        shown(all[i], letters);
-        i += 1;
-    }
-}
+// Each with a blank before it.
+#[derive(Drop)]
+pub struct Spaced<'a, T>(pub &'a [T]);
 
-// How many of the first so many words are this one.
-fn how_many(all: [u32; 67], count: usize, word: u32) -> usize
-    requires { count ≤ 67 }
-{
-    let mut n: usize = 0;
-    let mut i: usize = 0;
-    while i < count {
-        let hit = all[i] == word;
-        i += 1;
-        if hit {
-            n += 1;
+impl<T: Say> Say for Spaced<'_, T> {
+    fn say(&self) {
+        for item in self.0 {
+            say!(" ", *item)
         }
     }
-    n
 }
 
-// How many of the lent words are 0 now, and how many still 1,234,567, as all were lent: no table of these drafts has that word.
-pub fn left(all: [u32; 67], count: usize)
-    requires { count ≤ 67 }
-{
-    let zeros = how_many(all, count, 0);
-    let kept = how_many(all, count, 1234567);
-    texts::write(texts::LEFT, 0, count, zeros, kept, 0, 0)
+// The bytes of a text in one line: a newline as /, and a byte as it was lent as a dot.
+#[derive(Drop)]
+pub struct Shown<'a>(pub &'a [u8]);
+
+impl Say for Shown<'_> {
+    fn say(&self) {
+        for b in self.0 {
+            match *b {
+                b'\n' => say!("/"),
+                LENT_BYTE => say!("."),
+                b => byte(b),
+            }
+        }
+    }
+}
+
+// How many of the lent words are 0 now, and how many still as they were lent.
+#[derive(Drop)]
+pub struct Left<'a>(pub &'a [u32]);
+
+impl Say for Left<'_> {
+    fn say(&self) {
+        let words = self.0;
+        let zeros = words.iter().filter(|word| **word == 0).count();
+        let kept = words.iter().filter(|word| **word == LENT).count();
+        say!("; of ", words.len(), " words ", zeros, " are 0");
+        say!(" and ", kept, " as lent")
+    }
 }

@@ -1,102 +1,128 @@
 // Node tables made, checked, measured and listed.
-ghost use Rattle.std.specs.Prelude.{◌≤◌, ◌<◌};
-ghost use Rattle.worked.specs.Lent.{FewWords, Bytes};
+ghost use Rattle.std.specs.Prelude.{◌<◌};
 
-use crate::{files, say, texts};
+use crate::conversions;
+use crate::drafts::P;
+use crate::say::{Shown, Spaced, say};
+use automaton::Refusal;
+use expressions::{ARITY_STEP, Measured, Shape};
 
-// One node put at this number into so many words: its kind, its label and its first child.
-pub fn make(title: usize, room: usize, count: usize, kind: u32, label: u32, first: u32)
-    requires { FewWords room }
-{
-    let mut words = [1234567u32; 13];
-    let r = expressions::make(&mut words[..room], count, kind, label, first, 0, 0);
-    texts::plain(title);
-    texts::write(texts::MADE, r.number, count, 0, 0, 0, 0);
-    say::words(words, room)
+pub const EMPTY: Shape = Shape {
+    kind: 0,
+    label: 0,
+    first: 0,
+    second: 0,
+    third: 0,
+};
+
+pub fn hole(state: u32) -> Shape {
+    Shape {
+        kind: 1,
+        label: state,
+        ..EMPTY
+    }
 }
 
-// P's table in sixty words, with this word at this place. The first word is 0.
-fn changed(place: usize, word: u32) -> [u32; 60]
+// A symbol that takes no children.
+pub fn leaf(symbol: u32) -> Shape {
+    Shape {
+        kind: 2,
+        label: symbol,
+        ..EMPTY
+    }
+}
+
+// A symbol over one node twice.
+fn pair(symbol: u8, child: u32) -> Shape {
+    Shape {
+        label: u32::from(symbol) + 2 * ARITY_STEP,
+        first: child,
+        second: child,
+        ..leaf(0)
+    }
+}
+
+pub fn iteration(state: u32, child: u32) -> Shape {
+    Shape {
+        kind: 5,
+        label: state,
+        first: child,
+        ..EMPTY
+    }
+}
+
+// The node of this shape, put after so many.
+fn put(words: &mut [u32], count: usize, shape: Shape) -> Refusal {
+    let Shape {
+        kind,
+        label,
+        first,
+        second,
+        third,
+    } = shape;
+    expressions::make(words, count, kind, label, first, second, third)
+}
+
+// One node put at this number into the words.
+pub fn make(name: &str, words: &mut [u32], count: usize, shape: Shape) {
+    let refusal = put(words, count, shape);
+    say!("make ", name, " at ", count, ": ", refusal);
+    say!(", words", Spaced(words), "\n")
+}
+
+// P's table, in just enough words.
+pub fn of_p() -> [u32; 60] {
+    let mut words = [0; 60];
+    conversions::convert(&P, &mut words);
+    words
+}
+
+// P's table with this word at this place.
+pub fn changed(place: usize, word: u32) -> [u32; 60]
     requires { place < 60 }
 {
-    let mut words = [0u32; 60];
-    elimination::convert(&files::ALL[..43], &mut words);
+    let mut words = of_p();
     words[place] = word;
     words
 }
 
-// Is P's table sound, with this word at this place?
-pub fn sound(title: usize, place: usize, word: u32, count: usize, answer: usize)
-    requires { place < 60 }
-{
-    let words = changed(place, word);
-    let yes = expressions::is_sound(&words, count, answer);
-    texts::plain(title);
-    texts::write(texts::SOUND, yes as u8, count, answer, 0, 0, 0)
+// Are the words a sound table?
+pub fn check(name: &str, words: &[u32], count: usize, answer: usize) {
+    let yes = expressions::is_sound(words, count, answer);
+    say!("sound ", name, ", count ", count, ", answer ", answer);
+    say!(": ", yes, "\n")
 }
 
-// P's table measured with so many words lent.
-pub fn measure(count: usize, answer: usize, room: usize)
-    requires { FewWords room }
-{
-    let words = changed(0, 0);
-    let mut scratch = [1234567u32; 13];
-    let r = expressions::measure(&words, count, answer, &mut scratch[..room]);
-    texts::write(
-        texts::MEASURED,
-        r.refusal.number,
-        count,
-        answer,
-        r.size as usize,
-        0,
-        0,
-    );
-    say::words(scratch, room)
+pub fn measured(words: &[u32], count: usize, answer: usize, scratch: &mut [u32]) -> Measured {
+    expressions::measure(words, count, answer, scratch)
 }
 
-// P's table listed in so many bytes.
-pub fn list(count: usize, answer: usize, length: usize)
-    requires { Bytes length }
-{
-    let words = changed(0, 0);
-    let mut out = [255u8; 130];
-    let r = listing::list(&words, count, answer, &mut out[..length]);
-    texts::write(
-        texts::LISTED,
-        r.refusal.number,
-        count,
-        answer,
-        r.length,
-        0,
-        0,
-    );
-    say::bytes(out, length, true);
-    say::byte(b'\n')
+// P's table measured with these words lent.
+pub fn measure(count: usize, answer: usize, scratch: &mut [u32]) {
+    let measured = measured(&of_p(), count, answer, scratch);
+    say!("measure P, count ", count, ", answer ", answer, ": ");
+    say!(measured.refusal, ", size ", measured.size);
+    say!(", scratch", Spaced(scratch), "\n")
 }
 
-// The size of the last of so many nodes, each from the second on a symbol of two children, both the node before: sizes 1, 3, 7 and so on.
-pub fn measure_doubled(count: usize)
-    requires le_count { 1 ≤ count }
-    requires count_bound { count ≤ 33 }
-{
-    let mut words = [0u32; 198];
-    let mut i: usize = 0;
-    let mut label: u32 = 0;
-    let mut before: u32 = 0;
-    while i < count {
-        expressions::make(&mut words, i, 2, label, before, before, 0);
-        label = 513;
-        before = i as u32;
-        i += 1;
+// The size of the last node, where each from 1 on is a symbol over the node before, twice: sizes 1, 3, 7 and so on.
+pub fn measure_doubled(last: u32) {
+    let mut words = [0; 198];
+    put(&mut words, 0, leaf(0));
+    for before in 0..last {
+        put(&mut words, before as usize + 1, pair(1, before));
     }
-    let r = expressions::measure(&words, count, count - 1, &mut [0; 33]);
-    texts::write(
-        texts::DOUBLED,
-        r.refusal.number,
-        count,
-        r.size as usize,
-        0,
-        0,
-        0,
-    )
+    let answer = last as usize;
+    let nodes = answer + 1;
+    let measured = measured(&words, nodes, answer, &mut [0; 33]);
+    say!("measure ", nodes, " nodes, each twice in the next: ");
+    say!(measured.refusal, ", size ", measured.size, "\n")
+}
+
+// P's table listed in these bytes.
+pub fn list(count: usize, answer: usize, out: &mut [u8]) {
+    let listed = listing::list(&of_p(), count, answer, out);
+    say!("list P, count ", count, ", answer ", answer, ": ");
+    say!(listed.refusal, ", length ", listed.length);
+    say!(", text ", Shown(out), "\n")
 }

@@ -1,9 +1,0 @@
--- It goes through the sixteen states.
-use Prim.Native.Nat.{◌-◌, ◌≤◌}
-use Rattle.worked.proofs.say.states.Given as goal
-
-abbrev pub invariant-loop-q : goal.invariant-loop-q
-invariant-loop-q l = l.q ≤ 16
-
-abbrev pub decreases-loop-q : goal.decreases-loop-q
-decreases-loop-q l = 16 - l.q

@@ -1,2 +1,0 @@
--- for the contracts of private functions
-pub mod Lent
