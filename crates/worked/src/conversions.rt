@@ -2,10 +2,11 @@
 use crate::drafts::Draft;
 use crate::say::{Left, Say, Shown, say};
 use crate::tables;
-use elimination::{ListRow, Wholly};
+use elimination::{ListRow, Partly, Wholly};
+use front::Printing;
 
 pub fn convert(draft: &Draft, words: &mut [u32]) -> Wholly {
-    elimination::convert(draft.file, words)
+    elimination::convert(draft.file, words).into()
 }
 
 // A conversion into the words, and the written-out size of its answer.
@@ -27,7 +28,7 @@ impl Say for ListRow {
 pub fn partly(draft: &Draft, states: u32, words: &mut [u32]) {
     say!("convert ", draft.name, " by ", states, " states in ");
     say!(words.len(), " words: ");
-    let made = elimination::convert_partly(draft.file, states, words);
+    let made = Partly::from(elimination::convert_partly(draft.file, states, words));
     say!(
         made.refusal,
         ", ",
@@ -44,7 +45,7 @@ pub fn partly(draft: &Draft, states: u32, words: &mut [u32]) {
 
 // What the program `convert` prints for the file, in these words and bytes.
 pub fn printed(draft: &Draft, words: &mut [u32], out: &mut [u8]) {
-    let printing = front::printed(draft.file, words, out);
+    let printing = Printing::from(front::printed(draft.file, words, out));
     say!("printed ", draft.name, ": ", printing.refusal, ", length ");
     say!(printing.length, ", text ", Shown(out), Left(words), "\n")
 }

@@ -1,6 +1,7 @@
 // Trees run, and the productive states.
 use crate::drafts::Draft;
 use crate::say::{Spaced, say};
+use trees::{ProductiveStates, ReachedStates};
 
 // The tree that these symbols are, or symbols that are none.
 pub fn run(draft: &Draft, symbols: &[u16]) {
@@ -15,13 +16,13 @@ pub fn run_chain(draft: &Draft, symbols: &[u16]) {
 }
 
 fn outcome(draft: &Draft, symbols: &[u16]) {
-    let reached = trees::run(draft.file, symbols);
+    let reached = ReachedStates::from(trees::run(draft.file, symbols));
     say!(": ", reached.refusal, ", ", reached.states);
     say!(", ", reached.yes, "\n")
 }
 
 pub fn productive(draft: &Draft) {
-    let productive = trees::productive(draft.file);
+    let productive = ProductiveStates::from(trees::productive(draft.file));
     say!("productive ", draft.name, ": ", productive.refusal);
     say!(", ", productive.states, "\n")
 }

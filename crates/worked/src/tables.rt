@@ -6,6 +6,7 @@ use crate::drafts::P;
 use crate::say::{Shown, Spaced, say};
 use automaton::Refusal;
 use expressions::{ARITY_STEP, Measured, Shape};
+use listing::Listed;
 
 pub const EMPTY: Shape = Shape {
     kind: 0,
@@ -60,7 +61,7 @@ fn put(words: &mut [u32], count: usize, shape: Shape) -> Refusal {
         second,
         third,
     } = shape;
-    expressions::make(words, count, kind, label, first, second, third)
+    expressions::make(words, count, kind, label, first, second, third).into()
 }
 
 // One node put at this number into the words.
@@ -94,7 +95,7 @@ pub fn check(name: &str, words: &[u32], count: usize, answer: usize) {
 }
 
 pub fn measured(words: &[u32], count: usize, answer: usize, scratch: &mut [u32]) -> Measured {
-    expressions::measure(words, count, answer, scratch)
+    expressions::measure(words, count, answer, scratch).into()
 }
 
 // P's table measured with these words lent.
@@ -121,7 +122,7 @@ pub fn measure_doubled(last: u32) {
 
 // P's table listed in these bytes.
 pub fn list(count: usize, answer: usize, out: &mut [u8]) {
-    let listed = listing::list(&of_p(), count, answer, out);
+    let listed = Listed::from(listing::list(&of_p(), count, answer, out));
     say!("list P, count ", count, ", answer ", answer, ": ");
     say!(listed.refusal, ", length ", listed.length);
     say!(", text ", Shown(out), "\n")

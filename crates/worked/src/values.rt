@@ -2,9 +2,10 @@
 use crate::drafts::Draft;
 use crate::say::{Spaced, say};
 use automaton::{Automaton, Reading, Row};
+use writer::Writing;
 
 fn reading(draft: &Draft) -> Reading {
-    automaton::read(draft.file)
+    automaton::read(draft.file).into()
 }
 
 fn arities(value: &Automaton) {
@@ -51,7 +52,7 @@ pub fn write(draft: &Draft, states: u8, out: &mut [u8]) {
         states,
         ..reading(draft).automaton
     };
-    let writing = writer::write(value, out);
+    let writing = Writing::from(writer::write(value, out));
     say!("write ", draft.name, " with ", states, " states to ");
     say!(out.len(), " bytes: ", writing.refusal);
     say!(", length ", writing.length, ", bytes", Spaced(out), "\n")

@@ -70,7 +70,6 @@ module _ (before : List ℕ) (at : ℕ) (bytes : List ℕ) (long : Long (length 
 -- ---- a value
 
 pub write_kept : (value : Automaton) (before : List ℕ) → KeptBoth WritingFits Bytes before (Written value before)
-unfolding writing
 write_kept value before = go (dec-valid (held_by value)) (dec_le (length (file_of (held_by value))) (length before))
   where
     go : Dec (Valid (held_by value)) → Dec (length (file_of (held_by value)) ≤ length before) → KeptBoth WritingFits Bytes before (Written value before)

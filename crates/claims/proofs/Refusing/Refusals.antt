@@ -94,7 +94,6 @@ read-refuses file r p = refuses file_numbers (omega arith) (FileRefused file) _ 
 -- some file holds what is valid, and what some file holds is valid
 write-refuses : (value : Automaton) (before after : List ℕ) (r : Writing) → Written value before after r
     → Refuses (4 ∷ 6 ∷ []) (WriteRefused value before) r.refusal.number ((r.length ≡ 0) × (after ≡ before))
-unfolding writing
 write-refuses value before after r w = refuses (4 ∷ 6 ∷ []) (omega arith) (WriteRefused value before) _ _ among gives (go (dec-valid held) (dec_lt (length before) (length (file_of held))))
   where
     held : Held
