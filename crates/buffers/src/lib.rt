@@ -1,54 +1,78 @@
 // What is put into lent words and bytes: zeros, bytes, and numbers in decimal.
 #![tactic(auto)]
 
-ghost use Rattle.buffers.specs.Decimal.{decimal};
+ghost use Rattle.std.specs.Prelude.{◌≡◌, ◌+◌, ◌≤◌, length, SomeIff};
+ghost use Rattle.buffers.specs.Decimal.{decimal, last_digit};
 ghost use Rattle.buffers.specs.Writing.{Puts};
 ghost use Rattle.buffers.specs.Promises.{CountsDigits, Clears};
-
-mod numbers;
-mod stores;
 
 // Every word 0.
 pub fn zero(words: &mut [u32])
     ensures { Clears words.old words.new }
 {
-    let mut i: usize = 0;
-    while i < words.len() {
-        words[i] = 0;
-        i += 1;
-    }
+    words.fill(0);
 }
 
-// How many digits a number has: four for each division by 10,000, and those of what is left.
+// How many digits a number has. Small numbers are the most usual, and comparing is quicker for them than a logarithm.
 pub fn digits(n: u64) -> usize
     ensures { CountsDigits n result }
 {
-    let mut count: usize = 0;
-    let mut left = n;
-    while 10000 <= left {
-        left /= 10000;
-        count += 4;
+    if n >= 10_000 {
+        return n.ilog10() as usize + 1;
     }
-    count + numbers::few(left)
+    match n {
+        0..=9 => 1,
+        10..=99 => 2,
+        100..=999 => 3,
+        _ => 4,
+    }
 }
 
 // These bytes from this place on, where they fit; and the place after them.
 pub fn put_bytes(out: &mut [u8], at: usize, bytes: &[u8]) -> usize
     ensures { Puts out.old at bytes.now out.new result }
 {
-    if stores::has_room(out.len(), at, bytes.len()) {
-        return stores::copy(out, at, bytes);
-    }
-    at
+    let Some(end) = end_within(out.len(), at, bytes.len()) else {
+        return at;
+    };
+    out[at..end].copy_from_slice(bytes);
+    end
 }
 
 // A number's digits from this place on, where they fit; and the place after them.
 pub fn put_number(out: &mut [u8], at: usize, n: u64) -> usize
     ensures { Puts out.old at (decimal n) out.new result }
 {
-    let count = digits(n);
-    if stores::has_room(out.len(), at, count) {
-        return numbers::put_digits(out, at, count, n);
+    let Some(end) = end_within(out.len(), at, digits(n)) else {
+        return at;
+    };
+    put_digits(&mut out[at..end], n);
+    end
+}
+
+// The place after so many bytes from this place on, where they fit into the room. No sum is made before that is known, so any place may be asked about.
+fn end_within(room: usize, at: usize, count: usize) -> Option<usize>
+    ensures { SomeIff result (at + count ≤ room) (at + count) }
+{
+    let rest = room.checked_sub(at)?;
+    (count <= rest).then(|| at + count)
+}
+
+// A number's digits into a part that has just their room, from the last to the first.
+fn put_digits(part: &mut [u8], n: u64)
+    requires { length part.old ≡ length (decimal n) }
+    ensures { part.new ≡ decimal n }
+{
+    let mut left = n;
+    for place in (0..part.len()).rev() {
+        part[place] = last_digit(left);
+        left /= 10;
     }
-    at
+}
+
+// The last digit of a number.
+fn last_digit(n: u64) -> u8
+    ensures { result ≡ last_digit n }
+{
+    b'0' + (n % 10) as u8
 }

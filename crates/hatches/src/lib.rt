@@ -67,7 +67,7 @@ pub extern "C" fn door_set_count(set: StateSet) -> u32
     set.count()
 }
 
-// ---- the ground
+// ---- lent words and bytes
 
 #[unsafe(no_mangle)]
 pub extern "C" fn door_zero(words: &mut [u32])

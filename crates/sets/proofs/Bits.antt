@@ -1,17 +1,20 @@
 -- The laws of sets as numbers, over the width: what is in a set that is made, that two sets with the same members are one number, and that the machine's operations make the sets that are meant.
 use mathlib.Core.Path.{◌≡◌, refl, sym, ap, ap₂, ◌∙◌}
 use mathlib.Core.Bool.{Bool, true, false, cond, not, ◌&&◌, ◌||◌, or-false}
-use Prim.Native.Nat.{ℕ, zero, suc, ◌+◌, ◌*◌, ◌%◌, ◌^◌, ◌≤◌, ◌<◌, min, max}
-use native.Mathlib.Nat.{mod-lt, mod-one, one-mul, zero-mul, add_comm, add-zero, pow-suc, mod-eq_of_lt, lt_irrefl}
+use Prim.Native.Nat.{ℕ, zero, suc, ◌+◌, ◌-◌, ◌*◌, ◌/◌, ◌%◌, ◌^◌, ◌≤◌, ◌<◌, min, max}
+use native.Mathlib.Nat.{mod-lt, mod-one, one-mul, zero-mul, add_comm, add-zero, pow-suc, div-eq_of_lt, mod-eq_of_lt, lt_irrefl, lt_of_lt_of_le}
 use native.Mathlib.Numerals.{one-add}
 use native.Mathlib.Omega.{arith}
 use lib.Dec.{ltb, eqb}
-use lib.Pow.{pow_pos, pow-lt, mod-pow-add}
-use lib.Bits.{bit_and, bit_or, bit_xor, differ, or_lt, xor_lt, and_lt, or_shifted_r}
+use lib.Pow.{pow_pos, pow-lt, pow_mono, mod-pow-add}
+use lib.Bits.{bit_and, bit_or, or_lt, and_le_l, or_shifted_r}
 use lib.Count.{ones, ones_cat}
 use borrow.Author.Tests.{ne_eqb, lt-ltb, le-ltb, eqb-true, eqb-false, ltb-true, ltb-false}
 use Rattle.sets.specs.Members.{has, set_of, how_many, empty_set, one_set, union, without, size}
-use Rattle.sets.proofs.Digits.{digit, digit_lt, digit_or, digit_and, digit-xor, digit-zero, digit-high, digit-pow-same, digit-pow-other}
+use Rattle.std.specs.Int.{bit_at}
+use Rattle.std.proofs.Math.Bool.{and-true, and-false}
+use Rattle.std.proofs.lemmas.Nat.{and-not, one_shl}
+use Rattle.std.proofs.lemmas.Nat.Bits.{and_pow, bit_at_and, bit_at_or, bit_at_above, bit_at-lt, bit_at-zero, bit_at-pow_same, bit_at-pow_other}
 
 -- ---- membership in what the machine makes
 
@@ -37,44 +40,44 @@ both off on = refl
 both on off = refl
 both on on = refl
 
--- what is left of a digit where another takes it out
-cleared : {m n : ℕ} → Digit m → Digit n → eqb (differ m (min m n)) 1 ≡ (eqb m 1 && not (eqb n 1))
-cleared off off = refl
-cleared off on = refl
-cleared on off = refl
-cleared on on = refl
-
-digit-of : (x i : ℕ) → Digit (digit x i)
-digit-of x i = digit-is (digit x i) (digit_lt x i)
+digit-of : (x i : ℕ) → Digit (bit_at x i)
+digit-of x i = digit-is (bit_at x i) (bit_at-lt x i)
 
 pub has-or : (a b i : ℕ) → has (bit_or a b) i ≡ (has a i || has b i)
 unfolding has
-has-or a b i = rw digit_or (either (digit-of a i) (digit-of b i))
+has-or a b i = rw bit_at_or (either (digit-of a i) (digit-of b i))
 
 pub has-and : (a b i : ℕ) → has (bit_and a b) i ≡ (has a i && has b i)
 unfolding has
-has-and a b i = rw digit_and (both (digit-of a i) (digit-of b i))
+has-and a b i = rw bit_at_and (both (digit-of a i) (digit-of b i))
 
-pub has-cleared : (a b i : ℕ) → has (bit_xor a (bit_and a b)) i ≡ (has a i && not (has b i))
+-- the bits turned round, as the machine does it
+pub has-not : (width a i : ℕ) → a < 2 ^ width → i < width → has (2 ^ width - 1 - a) i ≡ not (has a i)
 unfolding has
-has-cleared a b i = rw (digit-xor, digit_and) (cleared (digit-of a i) (digit-of b i))
+has-not width a i h l = go (digit-of (2 ^ width - 1 - a) i) (digit-of a i) (omega (arith, and-not width a (2 ^ i) h (pow-lt l), and_pow (2 ^ width - 1 - a) i, and_pow a i))
+  where
+    go : {m n : ℕ} → Digit m → Digit n → m * 2 ^ i + n * 2 ^ i ≡ 2 ^ i → eqb m 1 ≡ not (eqb n 1)
+    go off off e = absurd (omega (arith, pow_pos i))
+    go off on e = refl
+    go on off e = refl
+    go on on e = absurd (omega (arith, pow_pos i))
 
 pub has-zero : (i : ℕ) → has 0 i ≡ false
 unfolding has
-has-zero i = rw digit-zero
+has-zero i = rw bit_at-zero
 
 pub has-pow : (q i : ℕ) → has (2 ^ q) i ≡ eqb i q
 unfolding has
 has-pow q i = go (eqb i q) refl
   where
-    go : (b : Bool) → eqb i q ≡ b → eqb (digit (2 ^ q) i) 1 ≡ b
-    go true e = rw (eqb-true i q e, digit-pow-same)
-    go false e = rw (digit-pow-other q i (eqb-false i q e))
+    go : (b : Bool) → eqb i q ≡ b → eqb (bit_at (2 ^ q) i) 1 ≡ b
+    go true e = rw (eqb-true i q e, bit_at-pow_same)
+    go false e = rw (bit_at-pow_other q i (eqb-false i q e))
 
 -- a set has no member at or above its width
 pub has-high : (width x i : ℕ) → x < 2 ^ width → width ≤ i → has x i ≡ false
 unfolding has
-has-high width x i h le = rw (digit-high width x i h le)
+has-high width x i h le = rw (bit_at_above x width i h le)
 
 -- ---- the set of those that pass a test
 
@@ -100,15 +103,6 @@ with-top width low i true h =
     ∙ has-or low (2 ^ width) i ∙ ap (λ (b : Bool). has low i || b) (has-pow width i)
 with-top width low i false h = ap (λ (n : ℕ). has n i) (add-zero low) ∙ sym (or-false (has low i))
 
-and-true : (b : Bool) → b ≡ (b && true)
-and-true true = refl
-and-true false = refl
-
-keep : (b c : Bool) → (b || (c && false)) ≡ b
-keep true c = refl
-keep false true = refl
-keep false false = refl
-
 -- i below the width or at it, where it is not at the width
 below_suc : (i width : ℕ) → (i ≡ width → ⊥) → ltb i (suc width) ≡ ltb i width
 below_suc i width n = go (ltb i width) refl
@@ -125,11 +119,11 @@ has-set_of (suc width) test i =
     ∙ ap (λ (b : Bool). b || (test width && eqb i width)) (has-set_of width test i) ∙ go (eqb i width) refl
   where
     go : (b : Bool) → eqb i width ≡ b → ((ltb i width && test i) || (test width && b)) ≡ (ltb i (suc width) && test i)
-    go true e = let same : i ≡ width = eqb-true i width e in rw (same, le-ltb width width (omega arith), lt-ltb width (suc width) (omega arith)) (sym (and-true (test width)))
-    go false e = rw (below_suc i width (eqb-false i width e)) (keep (ltb i width && test i) (test width))
+    go true e = let same : i ≡ width = eqb-true i width e in rw (same, le-ltb width width (omega arith), lt-ltb width (suc width) (omega arith)) (and-true (test width))
+    go false e = rw (below_suc i width (eqb-false i width e)) (rw (and-false, or-false))
 
 -- a number's members make it again, up to the width
-digit-of-has : (x w : ℕ) → cond (has x w) (2 ^ w) 0 ≡ digit x w * 2 ^ w
+digit-of-has : (x w : ℕ) → cond (has x w) (2 ^ w) 0 ≡ bit_at x w * 2 ^ w
 unfolding has
 digit-of-has x w = go (digit-of x w)
   where
@@ -137,7 +131,7 @@ digit-of-has x w = go (digit-of x w)
     go off = sym (zero-mul (2 ^ w))
     go on = sym (one-mul (2 ^ w))
 
-next-digit : (x w : ℕ) → x % 2 ^ suc w ≡ digit x w * 2 ^ w + x % 2 ^ w
+next-digit : (x w : ℕ) → x % 2 ^ suc w ≡ bit_at x w * 2 ^ w + x % 2 ^ w
 next-digit x w = ap (λ (n : ℕ). x % 2 ^ n) (sym (one-add w)) ∙ mod-pow-add x 1 w
 
 pub set_of-has : (width x : ℕ) → set_of width (λ i. has x i) ≡ x % 2 ^ width
@@ -166,33 +160,42 @@ empty-zero width = made width 0 (λ i. false) (pow_pos width) (λ i h. has-zero 
 
 -- the machine's one, shifted left by less than the width
 pub shifted : (width q : ℕ) → q < width → 1 * 2 ^ q % 2 ^ width ≡ 2 ^ q
-shifted width q h = ap (λ (n : ℕ). n % 2 ^ width) (one-mul (2 ^ q)) ∙ mod-eq_of_lt (pow-lt h)
+shifted width q h = one_shl q width h
 
-pub one_shifted : (width q : ℕ) → q < width → 1 * 2 ^ q % 2 ^ width ≡ one_set width q
+-- and by any number: by the width and more nothing is left of it
+pub one_shifted : (width q : ℕ) → cond (ltb q width) (1 * 2 ^ q % 2 ^ width) 0 ≡ one_set width q
 unfolding one_set
-one_shifted width q h = shifted width q h ∙ made width (2 ^ q) (λ i. eqb i q) (pow-lt h) (λ i _. has-pow q i)
+one_shifted width q = go (ltb q width) refl
+  where
+    go : (b : Bool) → ltb q width ≡ b → cond b (1 * 2 ^ q % 2 ^ width) 0 ≡ set_of width (λ i. eqb i q)
+    go true e =
+        let h : q < width = ltb-true q width e in
+        shifted width q h ∙ made width (2 ^ q) (λ i. eqb i q) (pow-lt h) (λ i _. has-pow q i)
+    go false e =
+        let h : width ≤ q = ltb-false q width e in
+        made width 0 (λ i. eqb i q) (pow_pos width) (λ i l. has-zero i ∙ sym (ne_eqb i q (λ e. lt_irrefl i (omega arith))))
 
-pub one_none : (width q : ℕ) → width ≤ q → 0 ≡ one_set width q
-unfolding one_set
-one_none width q h = made width 0 (λ i. eqb i q) (pow_pos width) (λ i l. has-zero i ∙ sym (ne_eqb i q (λ e. lt_irrefl i (omega arith))))
+-- a set shifted right by any number: by the width and more nothing is left of it, as in a division
+pub shifted_right : (width a i : ℕ) → a < 2 ^ width → cond (ltb i width) (a / 2 ^ i) 0 ≡ a / 2 ^ i
+shifted_right width a i h = go (ltb i width) refl
+  where
+    go : (b : Bool) → ltb i width ≡ b → cond b (a / 2 ^ i) 0 ≡ a / 2 ^ i
+    go true e = refl
+    go false e = sym (div-eq_of_lt (lt_of_lt_of_le h (pow_mono (ltb-false i width e))))
 
 pub union-or : (width a b : ℕ) → a < 2 ^ width → b < 2 ^ width → bit_or a b ≡ union width a b
 unfolding union
 union-or width a b ha hb = made width (bit_or a b) (λ i. has a i || has b i) (or_lt width a b ha hb) (λ i _. has-or a b i)
 
-pub without-cleared : (width a q : ℕ) → a < 2 ^ width → q < width → bit_xor a (bit_and a (2 ^ q)) ≡ without width a q
-unfolding without
-without-cleared width a q ha h =
-    made width (bit_xor a (bit_and a (2 ^ q))) (λ i. has a i && not (eqb i q)) (xor_lt width a (bit_and a (2 ^ q)) ha (and_lt width a (2 ^ q) ha (pow-lt h)))
-    (λ i _. has-cleared a (2 ^ q) i ∙ ap (λ (b : Bool). has a i && not b) (has-pow q i))
+-- what is in a set and in the other turned round, where that other is a set of one
+pub without-and : (width a q : ℕ) → a < 2 ^ width → bit_and a (2 ^ width - 1 - one_set width q) ≡ without width a q
+unfolding without one_set
+without-and width a q h =
+    let one = set_of width (λ i. eqb i q) in
+    made width (bit_and a (2 ^ width - 1 - one)) (λ i. has a i && not (eqb i q)) (omega (arith, and_le_l a (2 ^ width - 1 - one)))
+    (λ i l. has-and a (2 ^ width - 1 - one) i ∙ rw (has-not width one i (set_of-lt width (λ i. eqb i q)) l, has-set_of width (λ i. eqb i q) i, lt-ltb i width l))
 
-pub without-none : (width a q : ℕ) → a < 2 ^ width → width ≤ q → a ≡ without width a q
-unfolding without
-without-none width a q ha h =
-    made width a (λ i. has a i && not (eqb i q)) ha
-    (λ i l. and-true (has a i) ∙ ap (λ (b : Bool). has a i && not b) (sym (ne_eqb i q (λ e. lt_irrefl i (omega arith)))))
-
-ones-digit : (x w : ℕ) → ones (digit x w) ≡ cond (has x w) 1 0
+ones-digit : (x w : ℕ) → ones (bit_at x w) ≡ cond (has x w) 1 0
 unfolding has ones
 ones-digit x w = go (digit-of x w)
   where
@@ -204,7 +207,7 @@ ones_below : (width x : ℕ) → ones (x % 2 ^ width) ≡ how_many width (λ i. 
 unfolding how_many ones
 ones_below zero x = rw mod-one
 ones_below (suc width) x =
-    ap ones (next-digit x width) ∙ ones_cat width (digit x width) (x % 2 ^ width) (mod-lt x (pow_pos width))
+    ap ones (next-digit x width) ∙ ones_cat width (bit_at x width) (x % 2 ^ width) (mod-lt x (pow_pos width))
     ∙ ap₂ ◌+◌ (ones-digit x width) (ones_below width x) ∙ add_comm _ _
 
 -- the count of ones is the number of members

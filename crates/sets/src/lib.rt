@@ -1,15 +1,13 @@
-// Sets of states: sixteen bits, bit i for state i. Any number is taken as a state; 16 and more is in no set.
+// Sets of states: sixteen bits, bit i for state i. Any number is taken as a state; 16 and more is in no set, as a shift by so much leaves no bit.
 #![tactic(auto)]
 
 ghost use Rattle.sets.specs.Promises.{IsEmpty, IsOne, IsOfWord, IsUnion, SaysMember, SaysPast, IsWithout, IsCount};
 
-// The most states that a set can have, and the bits of a set.
+// The most states that a set can have: the bits of a set.
 pub const MOST_STATES: u8 = 16;
 
-const WIDTH: u32 = MOST_STATES as u32;
-
 #[repr(C)]
-#[derive(Clone, Copy)]
+#[derive(Clone, Copy, PartialEq, Eq, Debug)]
 pub struct StateSet(pub u16);
 
 impl StateSet {
@@ -26,18 +24,14 @@ impl StateSet {
     pub fn one(state: u32) -> Self
         ensures { IsOne state result }
     {
-        if state < WIDTH {
-            StateSet(1 << state)
-        } else {
-            StateSet::EMPTY
-        }
+        StateSet(1u16.unbounded_shl(state))
     }
 
     // The states that a word has as a set: its low sixteen bits.
     pub fn of_word(word: u32) -> Self
         ensures { IsOfWord word result }
     {
-        StateSet((word % 65536) as u16)
+        StateSet((word & 0xffff) as u16)
     }
 
     // What is in this set or in the other.
@@ -47,43 +41,31 @@ impl StateSet {
         StateSet(self.0 | other.0)
     }
 
-    // Is the state in this set?
+    // Is the state in this set? The test stands before the shift, since `unbounded_shr` would cost two instructions more here.
     pub fn has(self, state: u32) -> bool
         ensures { SaysMember self state result }
     {
-        if state < WIDTH {
-            (self.0 >> state) % 2 == 1
-        } else {
-            false
-        }
+        state < u16::BITS && (self.0 >> state) & 1 == 1
     }
 
     // Has this set a member at or past the count?
     pub fn past(self, count: u8) -> bool
         ensures { SaysPast self count result }
     {
-        if MOST_STATES <= count {
-            return false;
-        }
-        self.0 >> count != 0
+        self.0.unbounded_shr(u32::from(count)) != 0
     }
 
     // This set with one state taken out.
     pub fn without(self, state: u32) -> Self
         ensures { IsWithout self state result }
     {
-        let bits = self.0;
-        if state < WIDTH {
-            StateSet(bits ^ (bits & (1 << state)))
-        } else {
-            StateSet(bits)
-        }
+        StateSet(self.0 & !StateSet::one(state).0)
     }
 
     // How many states are in this set.
     pub fn count(self) -> u32
         ensures { IsCount self result }
     {
-        u16::count_ones(self.0)
+        self.0.count_ones()
     }
 }

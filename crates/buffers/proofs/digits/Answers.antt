@@ -1,26 +1,20 @@
 use native.Mathlib.Omega.{arith}
-use Rattle.buffers.proofs.Decimal.{four-more, digits-twenty}
+use mathlib.Core.Path.{sym, ap}
+use lib.ListN.{length}
+use Rattle.buffers.proofs.Decimal.{decimal-one, digits-log}
 use Rattle.buffers.proofs.digits.Goals as goal
 
-pub loop-left-init : goal.loop-left-init
-loop-left-init c = omega arith
+pub returns-then-n-ge10000 : goal.returns-then-n-ge10000
+returns-then-n-ge10000 c = sym (digits-log c.ilog10.result c.args.n c.ilog10.ensures.power_le c.ilog10.ensures.next_power_gt)
 
-pub overflow_add-count : goal.overflow_add-count
-overflow_add-count c =
-    let l = c.loop-left in
-    omega (arith, digits-twenty c.args.n (omega arith), four-more l.left c.loop-left-test.true)
+pub returns-in-0-to-9 : goal.returns-in-0-to-9
+returns-in-0-to-9 c = sym (ap length (decimal-one c.args.n (omega arith)))
 
-pub loop-left-smaller : goal.loop-left-smaller
-loop-left-smaller c = omega arith
+pub returns-in-10-to-99 : goal.returns-in-10-to-99
+returns-in-10-to-99 c = sym (digits-log 1 c.args.n (omega arith) (omega arith))
 
-pub loop-left-preserved : goal.loop-left-preserved
-loop-left-preserved c = let l = c.loop-left in omega (arith, four-more l.left c.loop-left-test.true)
+pub returns-in-100-to-999 : goal.returns-in-100-to-999
+returns-in-100-to-999 c = sym (digits-log 2 c.args.n (omega arith) (omega arith))
 
-pub few-requires : goal.few-requires
-few-requires c = omega arith
-
-pub overflow_add-result : goal.overflow_add-result
-overflow_add-result c = omega (arith, digits-twenty c.args.n (omega arith))
-
-pub returns : goal.returns
-returns c = omega arith
+pub returns-in_default : goal.returns-in_default
+returns-in_default c = sym (digits-log 3 c.args.n (omega arith) (omega arith))
