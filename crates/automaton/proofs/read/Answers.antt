@@ -53,12 +53,12 @@ returns-in_err-add_row-in-Row c =
 pub returns-in-End : goal.returns-in-End
 returns-in-End c =
     let s = c.loop-record.invariant in
-    read-done _ _ _ s _ _ _ (c.in_ok-record.ensures (given s.held) (λ kind yes post. post.1 s.held s.says)) c.in-End.is (sym c.is_empty.ensures ∙ c.if-is_empty.true)
+    read-done _ _ _ s _ _ _ (c.in_ok-record.ensures (given s.held) (λ kind yes post. post.1 s.held s.says)) c.in-End.is (cc)
 
 pub returns-in-End-2 : goal.returns-in-End-2
 returns-in-End-2 c =
     let s = c.loop-record.invariant in
-    read-past _ _ _ s _ _ _ (c.in_ok-record.ensures (given s.held) (λ kind yes post. post.1 s.held s.says)) c.in-End-2.is (sym c.is_empty.ensures ∙ c.if-is_empty.false)
+    read-past _ _ _ s _ _ _ (c.in_ok-record.ensures (given s.held) (λ kind yes post. post.1 s.held s.says)) c.in-End-2.is (cc)
 
 pub loop-record-smaller : goal.loop-record-smaller
 loop-record-smaller c =
