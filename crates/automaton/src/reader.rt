@@ -112,11 +112,13 @@ fn places_of(sources: &[u8], states: u8) -> Result<[u8; SOURCE_PLACES], Refused>
     requires { length sources.now ≤ most_arity }
     ensures { MatchResult result (λ places. (all_below states sources.now ≡ true) × (places ≡ filled most_arity 0 sources.now)) (λ reason. (number_of reason ≡ 4) × (all_below states sources.now ≡ false)) }
 {
-    if !sources.iter().all(|&state| state < states) {
-        return Err(Refused::Limit);
-    }
     let mut places = [0; SOURCE_PLACES];
-    places[..sources.len()].copy_from_slice(sources);
+    for (i, &state) in sources.iter().enumerate() {
+        if states <= state {
+            return Err(Refused::Limit);
+        }
+        places[i] = state;
+    }
     Ok(places)
 }
 

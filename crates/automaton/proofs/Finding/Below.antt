@@ -1,34 +1,28 @@
--- A list of numbers of which each is below a bound, as the test says it and as the library does.
-use Prim.Native.Nat.{ℕ, zero, suc, ◌<◌}
-use mathlib.Core.Bool.{Bool, true, false}
-use mathlib.Core.Logic.{◌↔◌}
-use mathlib.Core.Path.{◌≡◌, refl, sym}
-use mathlib.Core.List.{List, [], ◌∷◌}
+-- A list of numbers of which each is below a bound, as the test says it, while one goes along the list.
+use Prim.Native.Nat.{ℕ, zero, suc, ◌≤◌, ◌<◌}
+use mathlib.Core.Bool.{Bool, true, false, ◌&&◌, and-false}
+use mathlib.Core.Path.{◌≡◌}
+use mathlib.Core.List.{List, [], ◌∷◌, ◌++◌}
 use native.Mathlib.Omega.{arith}
 use lib.Dec.{ltb}
-use borrow.Author.Tests.{lt-ltb, ltb-true}
-use Rattle.std.specs.List.{All}
-use Rattle.std.specs.Bool.{IsTrue}
+use lib.ListN.{length, get_or}
+use borrow.Author.Tests.{lt-ltb, le-ltb}
 use Rattle.automaton.specs.Checks.{all_below}
-use Rattle.ground.proofs.Truth.{and_parts}
 
 module _ (bound : ℕ) where
-  below-every : (xs : List ℕ) → All (λ x. x < bound) xs → all_below bound xs ≡ true
+  -- one more that is below the bound
+  pub below-snoc : (xs : List ℕ) (x : ℕ) → all_below bound xs ≡ true → x < bound → all_below bound (xs ++ (x ∷ [])) ≡ true
   unfolding all_below
-  below-every [] each = refl
-  below-every (x ∷ xs) each = rw (lt-ltb x bound (each 0 0 (omega arith))) (below-every xs (λ k d h. each (suc k) d (omega arith)))
-
-  below-each : (xs : List ℕ) → all_below bound xs ≡ true → All (λ x. x < bound) xs
-  unfolding all_below
-  below-each [] e k d h = absurd (omega arith)
-  below-each (x ∷ xs) e zero d h = ltb-true x bound (and_parts (ltb x bound) (all_below bound xs) e).0
-  below-each (x ∷ xs) e (suc k) d h = below-each xs (and_parts (ltb x bound) (all_below bound xs) e).1 k d (omega arith)
-
-  -- what `all` answers is the test
-  pub below-all : (xs : List ℕ) (answer : Bool) → IsTrue answer ↔ All (λ x. x < bound) xs → answer ≡ all_below bound xs
-  below-all xs true is = sym (below-every xs (is.0 refl))
-  below-all xs false is = go (all_below bound xs) refl
+  below-snoc [] x e h = rw (lt-ltb x bound h)
+  below-snoc (y ∷ xs) x e h = go (ltb y bound) (λ p. below-snoc xs x p h) e
     where
-      go : (b : Bool) → all_below bound xs ≡ b → false ≡ b
-      go true e = is.1 (below-each xs e)
-      go false e = refl
+      go : (b : Bool) → (all_below bound xs ≡ true → all_below bound (xs ++ (x ∷ [])) ≡ true) → (b && all_below bound xs) ≡ true → (b && all_below bound (xs ++ (x ∷ []))) ≡ true
+      go true ih p = ih p
+      go false ih p = p
+
+  -- one that is not
+  pub below_fails : (xs : List ℕ) (i : ℕ) → i < length xs → bound ≤ get_or xs i 0 → all_below bound xs ≡ false
+  unfolding all_below
+  below_fails [] i l h = absurd (omega arith)
+  below_fails (x ∷ xs) zero l h = rw (le-ltb x bound h)
+  below_fails (x ∷ xs) (suc i) l h = rw (below_fails xs i (omega arith) h) (and-false (ltb x bound))

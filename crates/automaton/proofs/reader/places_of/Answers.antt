@@ -1,14 +1,24 @@
-use Rattle.std.proofs.Common.{rules, ◌++◌, List, ℕ, length, refl, ap, sym, ◌∙◌}
-use Rattle.std.proofs.lemmas.List.{drop-replicate}
-use Rattle.ground.specs.Lists.{filled}
-use Rattle.automaton.proofs.Finding.Below.{below-all}
+use Rattle.std.proofs.Common.{rules, arith, ◌≡◌, ◌+◌, ◌∷◌, ◌++◌, [], take, length, get_or, length-take-le, refl, sym, ap, ◌∙◌, add-one}
+use Rattle.std.proofs.lemmas.List.{take_more}
+use Rattle.automaton.specs.Checks.{all_below}
+use Rattle.ground.proofs.Places.{filled_none, filled-set}
+use Rattle.automaton.proofs.Finding.Below.{below-snoc, below_fails}
 use Rattle.automaton.proofs.reader.places_of.Goals as goal
 
-pub returns-then-not-all : goal.returns-then-not-all
-returns-then-not-all c = (refl, sym (below-all c.args.states c.args.sources.now c.all.result (search rules)) ∙ c.if-not-all.true)
+pub loop-i-init : goal.loop-i-init
+unfolding all_below
+loop-i-init c = record { below = refl; placed = filled_none 3 0 }
 
-pub returns : goal.returns
-unfolding filled
-returns c =
-    let sources = c.args.sources.now in
-    (sym (below-all c.args.states sources c.all.result (search rules)) ∙ c.if-not-all.false, rw c.copy_from_slice.ensures.after (ap (λ (rest : List ℕ). sources ++ rest) (drop-replicate (length sources) 3 0)))
+pub returns-then-states-state : goal.returns-then-states-state
+returns-then-states-state c = (refl, below_fails c.args.states c.args.sources.now c.loop-i.i c.loop-i-test.true c.if-states-state.true)
+
+pub loop-i-preserved : goal.loop-i-preserved
+loop-i-preserved c =
+    let xs = c.args.sources.now in
+    let i = c.loop-i.i in
+    let more : take (i + 1) xs ≡ take i xs ++ (get_or xs i 0 ∷ []) = take_more xs i 0 c.loop-i-test.true in
+    let count : i ≡ length (take i xs) = sym (length-take-le i xs (omega arith)) in
+    record {
+      below = rw more (below-snoc c.args.states (take i xs) (get_or xs i 0) c.loop-i.invariant.below c.if-states-state.false);
+      placed = rw (more, c.loop-i.invariant.placed) (filled-set 3 0 (take i xs) (get_or xs i 0) i count (omega arith));
+    }
