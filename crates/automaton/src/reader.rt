@@ -113,11 +113,13 @@ fn places_of(sources: &[u8], states: u8) -> Result<[u8; SOURCE_PLACES], Refused>
     ensures { MatchResult result (λ places. (all_below states sources.now ≡ true) × (places ≡ filled most_arity 0 sources.now)) (λ reason. (number_of reason ≡ 4) × (all_below states sources.now ≡ false)) }
 {
     let mut places = [0; SOURCE_PLACES];
-    for (i, &state) in sources.iter().enumerate() {
+    // A turn for each place and not for each source: it is faster, as the number of places is fixed.
+    for (i, place) in places.iter_mut().enumerate() {
+        let Some(&state) = sources.get(i) else { break };
         if states <= state {
             return Err(Refused::Limit);
         }
-        places[i] = state;
+        *place = state;
     }
     Ok(places)
 }
