@@ -1,10 +1,7 @@
 -- The reader, record by record, finds what the definition says.
-pub mod Frames
 pub mod Verdicts
-pub mod Stages
+pub mod Frames
+pub mod Growing
+pub mod Below
 pub mod Heads
-pub mod Symbols
-pub mod Sources
-pub mod Rows
-pub mod RowLoop
 pub mod Whole

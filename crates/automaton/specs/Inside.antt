@@ -1,100 +1,62 @@
--- What the private parts of the reader and the writer promise one another. Nothing here needs to be believed: the public promises cite none of it.
-use Rattle.std.specs.Prelude.{ℕ, suc, ◌+◌, ◌≤◌, Bool, true, cond, not, ◌&&◌, ◌||◌, ◌≡◌, List, [], map, leb, ltb, eqb, length, get_or, drop}
-use Rattle.automaton.specs.Held.{Rule, Held, most_symbols, most_arity, most_rows}
-use Rattle.ground.specs.Lists.{filled}
-use Rattle.automaton.specs.Checks.{Verdict, holds, fault, SoFar, nothing, given, number_at, length_allowed, all_below, verdict_from}
-use Rattle.automaton.specs.Answers.{placed_row, unused_row}
-use Rattle.automaton.specs.declared.reader.Frame.{Frame}
-use Rattle.automaton.specs.declared.reader.Head.{Head}
-use Rattle.automaton.specs.declared.reader.Symbols.{Symbols}
-use Rattle.automaton.specs.declared.reader.Sources.{Sources}
-use Rattle.automaton.specs.declared.reader.Ruled.{Ruled}
-use Rattle.automaton.specs.declared.reader.Rules.{Rules}
+-- What the private parts of the reader promise one another. Nothing here needs to be believed: the public promises cite none of it.
+use Rattle.std.specs.Prelude.{ℕ, suc, ◌+◌, ◌≤◌, true, ◌≡◌, List, [], length, drop, Result, MatchResult}
+use Rattle.sets.specs.declared.StateSet.{StateSet}
+use Rattle.automaton.specs.Held.{Held, most_symbols, most_rows}
+use Rattle.automaton.specs.Checks.{SoFar, nothing, Found, wrong, more, number_at, kind_allowed, length_allowed, values, record_found, verdict_from}
+use Rattle.automaton.specs.Refusals.{number_of}
+use Rattle.automaton.specs.Answers.{placed, reading_of}
+use Rattle.automaton.specs.declared.Refused.{Refused}
+use Rattle.automaton.specs.declared.Automaton.{Automaton}
+use Rattle.automaton.specs.declared.Reading.{Reading}
+use Rattle.automaton.specs.declared.reader.Kind.{Kind}
+use Rattle.automaton.specs.declared.reader.Kind.TheVariants.{Head, Symbol, Row, End}
 
--- ---- a record's frame: its kind, its length, and the checks before its values
+-- what `read` returns of a file whose records so far gave this, and whose bytes from there on are these
+unfoldable pub rest_answer : SoFar → List ℕ → Reading
+rest_answer so_far bytes = reading_of (verdict_from (suc (length bytes)) 0 so_far bytes)
 
--- which kinds may stand here: 1, where nothing was read; 2; 3 and 9
-unfoldable pub allowed_by : Bool → Bool → Bool → ℕ → Bool
-allowed_by first symbol rest kind = (eqb kind 1 && first) || ((eqb kind 2 && symbol) || ((eqb kind 3 || eqb kind 9) && rest))
+-- ---- one record
 
-abbrev pub no_frame : ℕ → Frame
-no_frame number = record { fault = number; kind = 0; size = 0 }
+-- the number of each kind [3.2]
+abbrev pub code_of : Kind → ℕ
+code_of Head = 1
+code_of Symbol = 2
+code_of Row = 3
+code_of End = 9
 
--- the frame, or the number of the first check that fails
-unfoldable pub frame_of : (ℕ → Bool) → List ℕ → Frame
-frame_of allowed bytes =
-    cond (ltb (length bytes) 4) (no_frame 1)
-    (cond (not (allowed (number_at bytes 2))) (no_frame 2)
-    (cond (not (length_allowed (number_at bytes 2) (number_at bytes 0))) (no_frame 3)
-    (cond (ltb (length bytes) (4 + number_at bytes 0)) (no_frame 1)
-    (record { fault = 0; kind = number_at bytes 2; size = number_at bytes 0 }))))
+-- a number that no kind has
+pub record NoKind (number : ℕ) : Type 0 where
+  pub no_head : number ≡ 1 → ⊥
+  pub no_symbol : number ≡ 2 → ⊥
+  pub no_row : number ≡ 3 → ⊥
+  pub no_end : number ≡ 9 → ⊥
 
--- what the file is found to be from an offset on
-unfoldable pub verdict_at : List ℕ → ℕ → SoFar → Verdict
-verdict_at file offset so_far = verdict_from (suc (length (drop offset file))) offset so_far (drop offset file)
+-- the kind of a number, or refused as the number of none
+abbrev pub IsKind : ℕ → Result Kind Refused → Type 0
+IsKind number r = MatchResult r (λ kind. number ≡ code_of kind) (λ reason. (number_of reason ≡ 2) × NoKind number)
 
--- ---- the stages of the reader: the head, the symbols, the rows. Each finds the fault, or leads on to a later offset with more given
+-- the first record of these bytes: the checks before its values have passed, and it is found to be what its values are
+pub record RecordRead (so_far : SoFar) (bytes : List ℕ) (kind : Kind) (payload rest : List ℕ) : Type 0 where
+  pub allowed : kind_allowed so_far (code_of kind) ≡ true
+  pub sized : length_allowed (code_of kind) (length payload) ≡ true
+  pub found : record_found so_far bytes ≡ values so_far (code_of kind) payload
+  pub size : number_at bytes 0 ≡ length payload
+  pub left : rest ≡ drop (4 + length payload) bytes
+  pub shorter : length rest + (4 + length payload) ≡ length bytes
 
-unfoldable pub held_so_far : ℕ → ℕ → List ℕ → List Rule → Held
-held_so_far states finals arities rules = record { states = states; finals = finals; arities = arities; rules = rules }
+-- the number of states and the final ones, of the first record
+pub record HeadRead (file : List ℕ) (states : ℕ) (finals : StateSet) (rest : List ℕ) : Type 0 where
+  pub found : record_found nothing file ≡ more (record { states = states; finals = finals.0; arities = []; rules = [] })
+  pub left : rest ≡ drop (4 + number_at file 0) file
 
--- a refusal number other than 0 is what the file is found to be; 0 means that the file is what it is found to be from the later offset on
-pub record Leads (file : List ℕ) (from : ℕ) (before : SoFar) (number at : ℕ) (after : SoFar) : Type 0 where
-  pub refused : (number ≡ 0 → ⊥) → verdict_at file from before ≡ fault number at
-  pub led : number ≡ 0 → verdict_at file from before ≡ verdict_at file at after
-  pub inside : number ≡ 0 → at ≤ length file
+-- ---- the value as it grows
 
-pub record HeadRead (file : List ℕ) (r : Head) : Type 0 where
-  pub refused : (r.fault ≡ 0 → ⊥) → verdict_at file 0 nothing ≡ fault r.fault 0
-  pub led : r.fault ≡ 0 → verdict_at file 0 nothing ≡ verdict_at file 7 (given (held_so_far r.states r.finals [] []))
-  pub inside : r.fault ≡ 0 → 7 ≤ length file
+-- the value says this
+pub record Says (held : Held) (value : Automaton) : Type 0 where
+  pub is : value ≡ placed held
+  pub few_symbols : length held.arities ≤ most_symbols
+  pub few_rules : length held.rules ≤ most_rows
 
--- the arities that are known then; whatever the states are
-pub record SymbolsRead (file : List ℕ) (r : Symbols) : Type 0 where
-  pub known : List ℕ
-  pub counted : r.count ≡ length known
-  pub few : length known ≤ most_symbols
-  pub shaped : r.arities ≡ filled most_symbols 0 known
-  pub leads : (states finals : ℕ)
-      → Leads file 7 (given (held_so_far states finals [] [])) r.fault r.at (given (held_so_far states finals known []))
-  pub some : r.fault ≡ 0 → 1 ≤ length known
-  pub other : r.fault ≡ 0 → number_at (drop r.at file) 2 ≡ 2 → ⊥
-
-pub record SourcesRead (sources : List ℕ) (states : ℕ) (r : Sources) : Type 0 where
-  pub fine : r.fine ≡ all_below states sources
-  pub shaped : r.fine ≡ true → r.places ≡ filled most_arity 0 sources
-
--- the row that a payload says, and the number of the first check of its values that fails, 0 where none does
-unfoldable pub rule_of : List ℕ → Rule
-rule_of payload = record { symbol = get_or payload 0 0; target = get_or payload 1 0; sources = drop 2 payload }
-
-unfoldable pub rule_fault : ℕ → List ℕ → List ℕ → ℕ
-rule_fault states known payload =
-    cond (leb (length known) (get_or payload 0 0)) 4
-    (cond (not (eqb (length payload) (2 + get_or known (get_or payload 0 0) 0))) 3
-    (cond (leb states (get_or payload 1 0)) 4
-    (cond (not (all_below states (drop 2 payload))) 4 0)))
-
--- the array and its count say these arities
-pub record Knows (arities : List ℕ) (symbols : ℕ) (known : List ℕ) : Type 0 where
-  pub shaped : arities ≡ filled most_symbols 0 known
-  pub counted : symbols ≡ length known
-
-pub record RowRead (states symbols : ℕ) (arities payload : List ℕ) (r : Ruled) : Type 0 where
-  pub fault : (known : List ℕ) → Knows arities symbols known → r.fault ≡ rule_fault states known payload
-  pub row : r.fault ≡ 0 → r.row ≡ placed_row (rule_of payload)
-
-pub record RowsAsked (file : List ℕ) (start symbols : ℕ) : Type 0 where
-  pub within : start ≤ length file
-  pub other : number_at (drop start file) 2 ≡ 2 → ⊥
-  pub few : symbols ≤ most_symbols
-
-pub record Ended (file : List ℕ) (start : ℕ) (held : Held) (r : Rules) : Type 0 where
-  pub rules : List Rule
-  pub found : verdict_at file start (given held) ≡ holds (held_so_far held.states held.finals held.arities rules)
-  pub counted : r.count ≡ length rules
-  pub shaped : r.rows ≡ filled most_rows unused_row (map placed_row rules)
-
-pub record RowsRead (file : List ℕ) (start : ℕ) (held : Held) (r : Rules) : Type 0 where
-  pub refused : (r.fault ≡ 0 → ⊥) → (offset : ℕ) × (verdict_at file start (given held) ≡ fault r.fault offset)
-  pub ended : r.fault ≡ 0 → Ended file start held r
+-- what a record's values are found to be: the value says it then, or the result has its number
+abbrev pub Added : Found → Automaton → Result (Unit {0}) Refused → Type 0
+Added found value r = MatchResult r (λ _. (held : Held) × (found ≡ more held) × Says held value) (λ reason. found ≡ wrong (number_of reason))

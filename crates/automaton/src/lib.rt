@@ -3,11 +3,14 @@
 
 mod reader;
 
-ghost use Rattle.std.specs.Prelude.{◌≡◌, replicate};
-ghost use Rattle.automaton.specs.Held.{most_symbols, most_rows};
-ghost use Rattle.automaton.specs.Refusals.{refusal, refusal_of};
-ghost use Rattle.automaton.specs.Answers.{unused_row, no_automaton, read_answer, read_of};
+ghost use Rattle.std.specs.Prelude.{◌≡◌};
+ghost use Rattle.automaton.specs.Held.{Held};
+ghost use Rattle.automaton.specs.Checks.{given, kind_allowed};
+ghost use Rattle.automaton.specs.Refusals.{refusal_of};
+ghost use Rattle.automaton.specs.Answers.{read_answer, read_of};
+ghost use Rattle.automaton.specs.Inside.{code_of, Says};
 
+use reader::{Kind, Record};
 use sets::StateSet;
 
 // The limits of an automaton, as numbers to compare with and as numbers of places.
@@ -89,7 +92,7 @@ pub struct Automaton {
     pub rows: [Row; ROW_PLACES],
 }
 
-// What `read` answers: on a refusal every number of the automaton is 0.
+// A reading as C has it: on a refusal every number of the automaton is 0.
 #[repr(C)]
 #[derive(Clone, Copy)]
 pub struct Reading {
@@ -101,9 +104,10 @@ impl From<Result<Automaton, Refused>> for Reading {
     ghost from_gives = { λ r reading. reading ≡ read_of r };
 
     fn from(r: Result<Automaton, Refused>) -> Reading {
-        let refusal = r.into();
-        let automaton = r.unwrap_or(no_automaton());
-        Reading { refusal, automaton }
+        Reading {
+            refusal: r.into(),
+            automaton: r.unwrap_or(NOTHING),
+        }
     }
 }
 
@@ -113,95 +117,40 @@ const UNUSED: Row = Row {
     sources: [0; SOURCE_PLACES],
 };
 
-// No row: every place unused.
-fn no_rows() -> [Row; ROW_PLACES]
-    ensures { result ≡ replicate most_rows unused_row }
-{
-    [UNUSED; ROW_PLACES]
-}
+// Every number 0, and every place unused.
+const NOTHING: Automaton = Automaton {
+    states: 0,
+    finals: StateSet::EMPTY,
+    symbols: 0,
+    arities: [0; SYMBOL_PLACES],
+    count: 0,
+    rows: [UNUSED; ROW_PLACES],
+};
 
-fn no_arities() -> [u8; SYMBOL_PLACES]
-    ensures { result ≡ replicate most_symbols 0 }
-{
-    [0; SYMBOL_PLACES]
-}
-
-// No automaton: every number 0.
-fn no_automaton() -> Automaton
-    ensures { result ≡ no_automaton }
-{
-    let arities = no_arities();
-    let rows = no_rows();
-    Automaton {
-        states: 0,
-        finals: StateSet::EMPTY,
-        symbols: 0,
-        arities,
-        count: 0,
-        rows,
-    }
-}
-
-fn no_reading(number: u8) -> Reading
-    ensures { result ≡ record { refusal = refusal number; automaton = no_automaton } }
-{
-    let arities = no_arities();
-    let rows = no_rows();
-    Reading {
-        refusal: Refusal { number },
-        automaton: Automaton {
-            states: 0,
-            finals: StateSet::EMPTY,
-            symbols: 0,
-            arities,
-            count: 0,
-            rows,
-        },
-    }
-}
-
-// The automaton that a file holds, or the reason for which its checks refuse it.
+// The automaton that a file holds, or the reason for which its checks refuse it: one pass over the bytes, and the value made once.
 pub fn read(file: &[u8]) -> Result<Automaton, Refused>
     ensures { read_of result ≡ read_answer file.now }
 {
-    let found = found_in(file);
-    match found.refusal.number {
-        0 => Ok(found.automaton),
-        1 => Err(Refused::BreaksOff),
-        2 => Err(Refused::Kind),
-        3 => Err(Refused::Length),
-        4 => Err(Refused::Limit),
-        _ => Err(Refused::PastEnd),
-    }
-}
-
-// The automaton that a file holds, or the refusal that its checks come to: one pass over the bytes, and the value made once.
-fn found_in(file: &[u8]) -> Reading
-    ensures { result ≡ read_answer file.now }
-{
-    let head = reader::head_of(file);
-    if head.fault != 0 {
-        return no_reading(head.fault);
-    }
-    let known = reader::symbols_of(file);
-    if known.fault != 0 {
-        return no_reading(known.fault);
-    }
-    let arities = known.arities;
-    let rules = reader::rows_of(file, known.at, head.states, known.count, &arities);
-    if rules.fault != 0 {
-        return no_reading(rules.fault);
-    }
-    let rows = rules.rows;
-    Reading {
-        refusal: Refusal { number: 0 },
-        automaton: Automaton {
-            states: head.states,
-            finals: StateSet(head.finals),
-            symbols: known.count,
-            arities,
-            count: rules.count,
-            rows,
-        },
+    let (states, finals, mut rest) = reader::head(file)?;
+    let mut found = Automaton {
+        states,
+        finals,
+        ..NOTHING
+    };
+    loop {
+        let record = reader::first_record(
+            rest,
+            |kind| -> bool
+                ensures { (held : Held) → Says held found → result ≡ kind_allowed (given held) (code_of kind) }
+            { found.may_have(kind) },
+        )?;
+        match record.kind {
+            Kind::Head => unreachable!(),
+            Kind::Symbol => found.add_symbol(record.payload)?,
+            Kind::Row => found.add_row(record.payload)?,
+            Kind::End if record.rest.is_empty() => return Ok(found),
+            Kind::End => return Err(Refused::PastEnd),
+        }
+        rest = record.rest;
     }
 }

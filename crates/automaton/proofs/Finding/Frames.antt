@@ -1,81 +1,70 @@
--- The frame of a record, case by case, as the reader finds it; and how the definition's checks begin with it.
-use Prim.Native.Nat.{ℕ, ◌+◌, ◌-◌, ◌≤◌, ◌<◌}
-use mathlib.Core.Bool.{Bool, true, false, cond, not, ◌&&◌, or-false}
+-- The checks of a record before its values, one after the other, as the reader makes them; and which lengths and kinds pass them.
+use Prim.Native.Nat.{ℕ, ◌+◌, ◌≤◌, ◌<◌}
+use mathlib.Core.Bool.{true, false, ◌&&◌, or-false}
 use mathlib.Core.Path.{◌≡◌, refl, sym, ap, ◌∙◌}
-use mathlib.Core.List.{List}
-use native.Mathlib.Nat.{add-zero, add_assoc}
-use lib.Dec.{leb, ltb, eqb}
-use lib.ListN.{length, drop, length-drop}
-use lib.Seq.{get_or-drop}
+use mathlib.Core.List.{List, [], ◌∷◌}
+use native.Mathlib.Omega.{arith}
+use lib.Dec.{leb, eqb}
+use lib.ListN.{length, take, drop, length-drop}
+use lib.Seq.{drop-drop}
+use Rattle.std.specs.List.{IsSplitAt}
 use borrow.Author.Tests.{lt-ltb, le-ltb, ne_eqb}
-use Rattle.automaton.specs.Checks.{number_at, length_allowed}
-use Rattle.automaton.specs.Inside.{allowed_by, no_frame, frame_of}
+use Rattle.automaton.specs.Checks.{SoFar, nothing, given, wrong, number_at, is_none, kind_allowed, length_allowed, values, record_found}
+use Rattle.automaton.specs.Inside.{code_of, NoKind, RecordRead}
+use Rattle.automaton.specs.declared.reader.Kind.{Kind}
 
-pub number-drop : (bytes : List ℕ) (n i : ℕ) → number_at (drop n bytes) i ≡ number_at bytes (n + i)
-unfolding number_at
-number-drop bytes n i = simp (get_or-drop, add_assoc)
+module _ (so_far : SoFar) (bytes : List ℕ) (size kind : ℕ) where
+  pub found-short : length bytes < 4 → record_found so_far bytes ≡ wrong 1
+  unfolding record_found
+  found-short h = rw (lt-ltb (length bytes) 4 h)
 
-pub number-here : (bytes : List ℕ) (n : ℕ) → number_at (drop n bytes) 0 ≡ number_at bytes n
-number-here bytes n = number-drop bytes n 0 ∙ ap (number_at bytes) (add-zero n)
+  module _ (four : 4 ≤ length bytes) (sized : size ≡ number_at bytes 0) (kinded : kind ≡ number_at bytes 2) where
+    pub found-kind : kind_allowed so_far kind ≡ false → record_found so_far bytes ≡ wrong 2
+    unfolding record_found
+    found-kind h = rw (le-ltb (length bytes) 4 four, ← kinded, h)
 
-module _ (allowed : ℕ → Bool) (file : List ℕ) (at size kind : ℕ) where
-  pub frame-short : length file - at < 4 → frame_of allowed (drop at file) ≡ no_frame 1
-  unfolding frame_of
-  frame-short h = rw (lt-ltb (length (drop at file)) 4 (simp length-drop h))
-
-  module _ (four : 4 ≤ length file - at) (sized : size ≡ number_at file at) (kinded : kind ≡ number_at file (at + 2)) where
-    here : frame_of allowed (drop at file)
-        ≡ cond (not (allowed kind)) (no_frame 2)
-        (cond (not (length_allowed kind size)) (no_frame 3)
-        (cond (ltb (length file - at) (4 + size)) (no_frame 1)
-        (record { fault = 0; kind = kind; size = size })))
-    unfolding frame_of
-    here = rw (number-here file at, number-drop file at 2, length-drop at file, ← sized, ← kinded, le-ltb (length file - at) 4 four)
-
-    pub frame-kind : allowed kind ≡ false → frame_of allowed (drop at file) ≡ no_frame 2
-    frame-kind h = here ∙ rw h
-
-    module _ (known : allowed kind ≡ true) where
-      pub frame-length : length_allowed kind size ≡ false → frame_of allowed (drop at file) ≡ no_frame 3
-      frame-length h = here ∙ rw (known, h)
+    module _ (known : kind_allowed so_far kind ≡ true) where
+      pub found-length : length_allowed kind size ≡ false → record_found so_far bytes ≡ wrong 3
+      unfolding record_found
+      found-length h = rw (le-ltb (length bytes) 4 four, ← kinded, ← sized, known, h)
 
       module _ (long : length_allowed kind size ≡ true) where
-        pub frame-cut : length file - at < 4 + size → frame_of allowed (drop at file) ≡ no_frame 1
-        frame-cut h = here ∙ rw (known, long, lt-ltb (length file - at) (4 + size) h)
+        pub found-cut : length bytes < 4 + size → record_found so_far bytes ≡ wrong 1
+        unfolding record_found
+        found-cut h = rw (le-ltb (length bytes) 4 four, ← kinded, ← sized, known, long, lt-ltb (length bytes) (4 + size) h)
 
-        pub frame-whole : 4 + size ≤ length file - at → frame_of allowed (drop at file) ≡ record { fault = 0; kind = kind; size = size }
-        frame-whole h = here ∙ rw (known, long, le-ltb (length file - at) (4 + size) h)
+        pub found-there : 4 + size ≤ length bytes → record_found so_far bytes ≡ values so_far kind (take size (drop 4 bytes))
+        unfolding record_found
+        found-there h = rw (le-ltb (length bytes) 4 four, ← kinded, ← sized, known, long, le-ltb (length bytes) (4 + size) h)
 
--- ---- which kinds and lengths
+-- a record of a kind that may stand here and has such a length, cut from the bytes after its first four
+pub found-record : (so_far : SoFar) (bytes : List ℕ) (size : ℕ) (kind : Kind) (payload rest : List ℕ) → 4 ≤ length bytes → size ≡ number_at bytes 0 → code_of kind ≡ number_at bytes 2
+    → kind_allowed so_far (code_of kind) ≡ true → length_allowed (code_of kind) size ≡ true → IsSplitAt (drop 4 bytes) size payload rest → RecordRead so_far bytes kind payload rest
+found-record so_far bytes size kind payload rest four sized kinded known long cut =
+    let there : 4 + size ≤ length bytes = omega (arith, cut.0, length-drop 4 bytes) in
+    let long_is : length payload ≡ size = cut.3 in
+    record {
+      allowed = known;
+      sized = rw long_is long;
+      found = found-there so_far bytes size (code_of kind) four sized kinded known long there ∙ ap (values so_far (code_of kind)) (sym cut.1);
+      size = sym sized ∙ sym long_is;
+      left = cut.2 ∙ rw long_is (drop-drop size 4 bytes);
+      shorter = omega (arith, cut.4, length-drop 4 bytes, long_is);
+    }
 
-pub allowed-first : (first symbol rest : Bool) → first ≡ allowed_by first symbol rest 1
-unfolding allowed_by
-allowed-first true symbol rest = refl
-allowed-first false symbol rest = refl
+-- ---- which kinds
 
-pub allowed-symbol : (first symbol rest : Bool) → symbol ≡ allowed_by first symbol rest 2
-unfolding allowed_by
-allowed-symbol first true rest = refl
-allowed-symbol first false rest = refl
+-- a number that no kind has may stand nowhere
+pub allowed-none : (so_far : SoFar) (kind : ℕ) → NoKind kind → kind_allowed so_far kind ≡ false
+unfolding kind_allowed
+allowed-none nothing kind u = ne_eqb kind 1 u.no_head
+allowed-none (given held) kind u = rw (ne_eqb kind 2 u.no_symbol, ne_eqb kind 3 u.no_row, ne_eqb kind 9 u.no_end)
 
-pub allowed-row : (first symbol rest : Bool) → rest ≡ allowed_by first symbol rest 3
-unfolding allowed_by
-allowed-row first symbol rest = refl
+pub none-length : {A : Type 0} (xs : List A) → is_none xs ≡ eqb (length xs) 0
+none-length [] = refl
+none-length (x ∷ xs) = sym (ne_eqb (length (x ∷ xs)) 0 (λ e. omega arith))
 
-pub allowed-end : (first symbol rest : Bool) → rest ≡ allowed_by first symbol rest 9
-unfolding allowed_by
-allowed-end first symbol rest = refl
-
-pub record Unknown (kind : ℕ) : Type 0 where
-  pub no_head : kind ≡ 1 → ⊥
-  pub no_symbol : kind ≡ 2 → ⊥
-  pub no_row : kind ≡ 3 → ⊥
-  pub no_end : kind ≡ 9 → ⊥
-
-pub allowed-none : (first symbol rest : Bool) (kind : ℕ) → Unknown kind → false ≡ allowed_by first symbol rest kind
-unfolding allowed_by
-allowed-none first symbol rest kind u =
-    rw (ne_eqb kind 1 u.no_head, ne_eqb kind 2 u.no_symbol, ne_eqb kind 3 u.no_row, ne_eqb kind 9 u.no_end)
+-- ---- which lengths
 
 pub length-head : (size : ℕ) → eqb size 3 ≡ length_allowed 1 size
 unfolding length_allowed
@@ -92,8 +81,3 @@ length-row size = sym (or-false _)
 pub length-end : (size : ℕ) → eqb size 0 ≡ length_allowed 9 size
 unfolding length_allowed
 length-end size = refl
-
-pub length_none : (kind size : ℕ) → Unknown kind → false ≡ length_allowed kind size
-unfolding length_allowed
-length_none kind size u =
-    rw (ne_eqb kind 1 u.no_head, ne_eqb kind 2 u.no_symbol, ne_eqb kind 3 u.no_row, ne_eqb kind 9 u.no_end)

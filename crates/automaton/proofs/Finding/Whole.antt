@@ -1,73 +1,114 @@
--- The reader's stages together are what the file is found to be.
+-- The reader's loop: what stands at each record, and each way on.
 use Prim.Native.Nat.{ℕ, ◌≤◌}
+use mathlib.Core.Bool.{true, false, ◌&&◌}
 use mathlib.Core.Path.{◌≡◌, refl, sym, ap, ◌∙◌}
-use mathlib.Core.List.{List, [], map}
-use lib.ListN.{length}
-use Rattle.automaton.specs.Checks.{fault, nothing, given, verdict}
-use Rattle.ground.specs.Lists.{filled}
-use Rattle.automaton.specs.Answers.{placed_row, unused_row, placed, no_automaton, reading_of, read_answer}
-use Rattle.automaton.specs.Inside.{verdict_at, held_so_far, HeadRead, SymbolsRead, Knows, RowsAsked, RowsRead}
-use Rattle.automaton.specs.Held.{Rule}
-use Rattle.automaton.specs.declared.Row.{Row}
-use Rattle.automaton.specs.declared.Automaton.{Automaton}
-use Rattle.automaton.specs.declared.reader.Head.{Head}
-use Rattle.automaton.specs.declared.reader.Symbols.{Symbols}
-use Rattle.automaton.specs.declared.reader.Rules.{Rules}
+use mathlib.Core.List.{List, []}
+use native.Mathlib.Omega.{arith}
+use lib.Dec.{eqb, leb}
+use lib.ListN.{length, drop, replicate}
+use borrow.Author.Tests.{eqb-true, leb-true}
+use Rattle.automaton.specs.Held.{Held}
+use Rattle.automaton.specs.Checks.{nothing, given, wrong, more, end, kind_allowed, symbol_values, row_values, values, record_found}
 use Rattle.automaton.specs.Refusals.{refusal, no_refusal}
+use Rattle.automaton.specs.Answers.{unused_row, no_automaton, read_answer}
+use Rattle.automaton.specs.Inside.{rest_answer, code_of, RecordRead, HeadRead, Says}
+use Rattle.automaton.specs.declared.Automaton.{Automaton}
+use Rattle.automaton.specs.declared.reader.Kind.{Kind}
+use Rattle.automaton.specs.declared.reader.Kind.TheVariants.{Head, Symbol, Row, End}
+use Rattle.sets.specs.declared.StateSet.{StateSet}
+use Rattle.ground.proofs.Places.{filled_none}
+use Rattle.automaton.proofs.Finding.Verdicts.{answer-wrong, answer-more, answer-end, answer-past, answer-whole}
+use Rattle.automaton.proofs.Finding.Frames.{none-length, length-symbol, length-row, length-end}
+use Rattle.automaton.proofs.Finding.Growing.{placed_as, symbols-are}
+use Rattle.ground.proofs.Truth.{and_parts}
 
-placed_by : (states finals : ℕ) (known : List ℕ) (rules : List Rule) (symbols : ℕ) (arities : List ℕ) (count : ℕ) (rows : List Row)
-    → symbols ≡ length known → arities ≡ filled 32 0 known → count ≡ length rules → rows ≡ filled 64 unused_row (map placed_row rules)
-    → record { states = states; finals = record { 0 = finals }; symbols = symbols; arities = arities; count = count; rows = rows } ≡ placed (held_so_far states finals known rules)
-unfolding placed held_so_far
-placed_by states finals known rules symbols arities count rows p q r s i =
-    record { states = states; finals = record { 0 = finals }; symbols = p i; arities = q i; count = r i; rows = s i }
+-- what was read so far is held, the value says it, and the rest of the file decides
+pub record ReadSoFar (file : List ℕ) (found : Automaton) (rest : List ℕ) : Type 0 where
+  pub held : Held
+  pub says : Says held found
+  pub decides : read_answer file ≡ rest_answer (given held) rest
 
-module _ (file : List ℕ) where
-  pub whole-file : verdict file ≡ verdict_at file 0 nothing
-  unfolding verdict verdict_at
-  whole-file = refl
+pub read-start : (file : List ℕ) (states : ℕ) (finals : StateSet) (rest : List ℕ) → HeadRead file states finals rest
+    → ReadSoFar file (record { states = states; finals = finals; symbols = 0; arities = replicate 32 0; count = 0; rows = replicate 64 unused_row }) rest
+read-start file states finals rest h =
+    let first : Held = record { states = states; finals = finals.0; arities = []; rules = [] } in
+    record {
+      held = first;
+      says = record { is = placed_as _ _ _ _ _ _ first refl refl refl (filled_none 32 0) refl (filled_none 64 unused_row); few_symbols = omega arith; few_rules = omega arith };
+      decides = sym (answer-whole file) ∙ answer-more nothing file first h.found ∙ ap (rest_answer (given first)) (sym h.left);
+    }
 
-  refused : (number offset : ℕ) → verdict_at file 0 nothing ≡ fault number offset
-      → record { refusal = refusal number; automaton = no_automaton } ≡ read_answer file
-  unfolding read_answer reading_of
-  refused number offset e = rw (whole-file ∙ e)
+-- the first record is refused
+pub first-refused : (file : List ℕ) (n : ℕ) → record_found nothing file ≡ wrong n → record { refusal = refusal n; automaton = no_automaton } ≡ read_answer file
+first-refused file n e = sym (answer-wrong nothing file n e) ∙ answer-whole file
 
-  module _ (h : Head) (head : HeadRead file h) where
-    pub head-refused : (h.fault ≡ 0 → ⊥) → record { refusal = refusal h.fault; automaton = no_automaton } ≡ read_answer file
-    head-refused n = refused h.fault 0 (head.refused n)
+module _ (file : List ℕ) (found : Automaton) (rest : List ℕ) (s : ReadSoFar file found rest) where
+  pub few-symbols : found.symbols ≤ 32
+  few-symbols = rw (symbols-are s.held found s.says) s.says.few_symbols
 
-    module _ (hz : h.fault ≡ 0) (s : Symbols) (symbols : SymbolsRead file s) where
-      pub symbols-refused : (s.fault ≡ 0 → ⊥) → record { refusal = refusal s.fault; automaton = no_automaton } ≡ read_answer file
-      symbols-refused n = refused s.fault s.at (head.led hz ∙ (symbols.leads h.states h.finals).refused n)
+  pub next-refused : (n : ℕ) → record_found (given s.held) rest ≡ wrong n → record { refusal = refusal n; automaton = no_automaton } ≡ read_answer file
+  next-refused n e = sym (s.decides ∙ answer-wrong (given s.held) rest n e)
 
-      module _ (sz : s.fault ≡ 0) where
-        pub rows-asked : RowsAsked file s.at s.count
-        rows-asked =
-            record {
-              within = (symbols.leads 0 0).inside sz;
-              other = symbols.other sz;
-              few = rw symbols.counted symbols.few;
-            }
+  module _ (kind : Kind) (payload left : List ℕ) (r : RecordRead (given s.held) rest kind payload left) where
+    next-more : (value : Automaton) (held : Held) → values (given s.held) (code_of kind) payload ≡ more held → Says held value → ReadSoFar file value left
+    next-more value held e says =
+        record {
+          held = held;
+          says = says;
+          decides = s.decides ∙ answer-more (given s.held) rest held (r.found ∙ e) ∙ ap (rest_answer (given held)) (rw r.size (sym r.left));
+        }
 
-        module _ (r : Rules)
-            (rows : (finals : ℕ) (known : List ℕ) → Knows s.arities s.count known → 1 ≤ length known → RowsRead file s.at (held_so_far h.states finals known []) r) where
-          here : RowsRead file s.at (held_so_far h.states h.finals symbols.known []) r
-          here = rows h.finals symbols.known (record { shaped = symbols.shaped; counted = symbols.counted }) (symbols.some sz)
+    pub no-head : kind ≡ Head → ⊥
+    unfolding kind_allowed
+    no-head k = let e : false ≡ true = rw k at r.allowed in cc
 
-          led : verdict_at file 0 nothing ≡ verdict_at file s.at (given (held_so_far h.states h.finals symbols.known []))
-          led = head.led hz ∙ (symbols.leads h.states h.finals).led sz
+    module _ (k : kind ≡ Symbol) where
+      symbol-value : values (given s.held) (code_of kind) payload ≡ symbol_values s.held payload
+      unfolding values
+      symbol-value = rw k
 
-          pub rows-refused : (r.fault ≡ 0 → ⊥) → record { refusal = refusal r.fault; automaton = no_automaton } ≡ read_answer file
-          rows-refused n = let f = here.refused n in refused r.fault f.0 (led ∙ f.1)
+      pub symbol-long : length payload ≡ 1
+      symbol-long = eqb-true _ _ (length-symbol (length payload) ∙ (rw k at r.sized))
 
-          pub all_read : r.fault ≡ 0
-              → record {
-                refusal = no_refusal;
-                automaton = record { states = h.states; finals = record { 0 = h.finals }; symbols = s.count; arities = s.arities; count = r.count; rows = r.rows };
-              } ≡ read_answer file
-          unfolding read_answer reading_of held_so_far
-          all_read z =
-              let e = here.ended z in
-              ap (λ (a : Automaton). record { refusal = no_refusal; automaton = a })
-              (placed_by h.states h.finals symbols.known e.rules s.count s.arities r.count r.rows symbols.counted symbols.shaped e.counted e.shaped)
-              ∙ ap reading_of (sym (whole-file ∙ led ∙ e.found))
+      pub symbol-refused : (n : ℕ) → symbol_values s.held payload ≡ wrong n → record { refusal = refusal n; automaton = no_automaton } ≡ read_answer file
+      symbol-refused n e = next-refused n (r.found ∙ symbol-value ∙ e)
+
+      pub symbol-next : (value : Automaton) → (next : Held) × (symbol_values s.held payload ≡ more next) × Says next value → ReadSoFar file value left
+      symbol-next value added = next-more value added.0 (symbol-value ∙ added.1) added.2
+
+    module _ (k : kind ≡ Row) where
+      row-value : values (given s.held) (code_of kind) payload ≡ row_values s.held payload
+      unfolding values
+      row-value = rw k
+
+      row-long : (leb 2 (length payload) && leb (length payload) 5) ≡ true
+      row-long = length-row (length payload) ∙ (rw k at r.sized)
+
+      pub row-two : 2 ≤ length payload
+      row-two = leb-true _ _ (and_parts _ _ row-long).0
+
+      pub row-five : length payload ≤ 5
+      row-five = leb-true _ _ (and_parts _ _ row-long).1
+
+      pub row-refused : (n : ℕ) → row_values s.held payload ≡ wrong n → record { refusal = refusal n; automaton = no_automaton } ≡ read_answer file
+      row-refused n e = next-refused n (r.found ∙ row-value ∙ e)
+
+      pub row-next : (value : Automaton) → (next : Held) × (row_values s.held payload ≡ more next) × Says next value → ReadSoFar file value left
+      row-next value added = next-more value added.0 (row-value ∙ added.1) added.2
+
+    module _ (k : kind ≡ End) where
+      end-value : record_found (given s.held) rest ≡ end s.held
+      unfolding values
+      end-value = r.found ∙ rw k
+
+      end-size : length payload ≡ 0
+      end-size = eqb-true _ _ (length-end (length payload) ∙ (rw k at r.sized))
+
+      end-left : left ≡ drop 4 rest
+      end-left = rw end-size at r.left
+
+      pub read-done : eqb (length left) 0 ≡ true → record { refusal = no_refusal; automaton = found } ≡ read_answer file
+      read-done e = rw s.says.is (sym (s.decides ∙ answer-end (given s.held) rest s.held end-value (none-length (drop 4 rest) ∙ (rw end-left at e))))
+
+      pub read-past : eqb (length left) 0 ≡ false → record { refusal = refusal 5; automaton = no_automaton } ≡ read_answer file
+      read-past e = sym (s.decides ∙ answer-past (given s.held) rest s.held end-value (none-length (drop 4 rest) ∙ (rw end-left at e)))

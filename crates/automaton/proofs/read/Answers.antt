@@ -1,18 +1,75 @@
 use Rattle.std.proofs.Common.{arith}
-use Rattle.automaton.proofs.Refusing.{refused-as, refused-past}
+use Rattle.std.proofs.lemmas.Result.{err_from_is_err_and}
+use Rattle.automaton.specs.Checks.{given}
+use Rattle.automaton.specs.Answers.{unused_row}
+use Rattle.automaton.proofs.Finding.Whole.{read-start, first-refused, few-symbols, next-refused, no-head, symbol-long, symbol-refused, symbol-next, row-two, row-five, row-refused, row-next, read-done, read-past}
 use Rattle.automaton.proofs.read.Goals as goal
+use Rattle.automaton.proofs.read.Goals.{in-Symbol+in_ok-add_symbol-in-Symbol, in-Row+in_ok-add_row-in-Row}
 
-pub returns-in-1 : goal.returns-in-1
-returns-in-1 c = refused-as c.args.file.now c.found_in-found.result c.found_in-found.ensures 1 c.in-1.is (λ e. omega arith)
+pub returns-in_err-states : goal.returns-in_err-states
+returns-in_err-states c =
+    let p = err_from_is_err_and c.from_residual.result c.from_residual.ensures.1 in
+    rw (p.1, p.2) (first-refused c.args.file.now _ c.in_err-states.ensures)
 
-pub returns-in-2 : goal.returns-in-2
-returns-in-2 c = refused-as c.args.file.now c.found_in-found.result c.found_in-found.ensures 2 c.in-2.is (λ e. omega arith)
+pub loop-record-init : goal.loop-record-init
+unfolding unused_row
+loop-record-init c = read-start c.args.file.now c.in_ok-states.states c.in_ok-states.finals c.in_ok-states.rest.now c.in_ok-states.ensures
 
-pub returns-in-3 : goal.returns-in-3
-returns-in-3 c = refused-as c.args.file.now c.found_in-found.result c.found_in-found.ensures 3 c.in-3.is (λ e. omega arith)
+pub returns-in_err-record : goal.returns-in_err-record
+returns-in_err-record c =
+    let s = c.loop-record.invariant in
+    let p = err_from_is_err_and c.from_residual-in_err-record.result c.from_residual-in_err-record.ensures.1 in
+    rw (p.1, p.2) (next-refused _ _ _ s _ (c.in_err-record.ensures (given s.held) (λ kind yes post. post.1 s.held s.says)))
 
-pub returns-in-4 : goal.returns-in-4
-returns-in-4 c = refused-as c.args.file.now c.found_in-found.result c.found_in-found.ensures 4 c.in-4.is (λ e. omega arith)
+pub unreachable-requires : goal.unreachable-requires
+unreachable-requires c = let s = c.loop-record.invariant in no-head _ _ _ s _ _ _ (c.in_ok-record.ensures (given s.held) (λ kind yes post. post.1 s.held s.says)) c.in-Head.is
 
-pub returns-in_default : goal.returns-in_default
-returns-in_default c = refused-as c.args.file.now c.found_in-found.result c.found_in-found.ensures 5 (refused-past c.args.file.now c.found_in-found.result c.found_in-found.ensures (λ e. omega arith) (λ e. omega arith) (λ e. omega arith) (λ e. omega arith) (λ e. omega arith)) (λ e. omega arith)
+pub add_symbol-requires : goal.add_symbol-requires
+add_symbol-requires c = let s = c.loop-record.invariant in symbol-long _ _ _ s _ _ _ (c.in_ok-record.ensures (given s.held) (λ kind yes post. post.1 s.held s.says)) c.in-Symbol.is
+
+pub returns-in_err-add_symbol-in-Symbol : goal.returns-in_err-add_symbol-in-Symbol
+returns-in_err-add_symbol-in-Symbol c =
+    let s = c.loop-record.invariant in
+    let p = err_from_is_err_and c.from_residual-in_err-add_symbol-in-Symbol.result c.from_residual-in_err-add_symbol-in-Symbol.ensures.1 in
+    rw (p.1, p.2)
+    (symbol-refused _ _ _ s _ _ _ (c.in_ok-record.ensures (given s.held) (λ kind yes post. post.1 s.held s.says)) c.in-Symbol.is _ (c.in_err-add_symbol-in-Symbol.ensures s.held s.says))
+
+pub add_row-requires-clause-few : goal.add_row-requires-clause-few
+add_row-requires-clause-few c = few-symbols _ _ _ c.loop-record.invariant
+
+pub add_row-requires-clause-two : goal.add_row-requires-clause-two
+add_row-requires-clause-two c = let s = c.loop-record.invariant in row-two _ _ _ s _ _ _ (c.in_ok-record.ensures (given s.held) (λ kind yes post. post.1 s.held s.says)) c.in-Row.is
+
+pub add_row-requires-clause-five : goal.add_row-requires-clause-five
+add_row-requires-clause-five c = let s = c.loop-record.invariant in row-five _ _ _ s _ _ _ (c.in_ok-record.ensures (given s.held) (λ kind yes post. post.1 s.held s.says)) c.in-Row.is
+
+pub returns-in_err-add_row-in-Row : goal.returns-in_err-add_row-in-Row
+returns-in_err-add_row-in-Row c =
+    let s = c.loop-record.invariant in
+    let p = err_from_is_err_and c.from_residual-in_err-add_row-in-Row.result c.from_residual-in_err-add_row-in-Row.ensures.1 in
+    rw (p.1, p.2)
+    (row-refused _ _ _ s _ _ _ (c.in_ok-record.ensures (given s.held) (λ kind yes post. post.1 s.held s.says)) c.in-Row.is _ (c.in_err-add_row-in-Row.ensures s.held s.says))
+
+pub returns-in-End : goal.returns-in-End
+returns-in-End c =
+    let s = c.loop-record.invariant in
+    read-done _ _ _ s _ _ _ (c.in_ok-record.ensures (given s.held) (λ kind yes post. post.1 s.held s.says)) c.in-End.is (cc)
+
+pub returns-in-End-2 : goal.returns-in-End-2
+returns-in-End-2 c =
+    let s = c.loop-record.invariant in
+    read-past _ _ _ s _ _ _ (c.in_ok-record.ensures (given s.held) (λ kind yes post. post.1 s.held s.says)) c.in-End-2.is (cc)
+
+pub loop-record-smaller : goal.loop-record-smaller
+loop-record-smaller c =
+    let s = c.loop-record.invariant in
+    omega (arith, (c.in_ok-record.ensures (given s.held) (λ kind yes post. post.1 s.held s.says)).shorter)
+
+pub loop-record-preserved : goal.loop-record-preserved
+loop-record-preserved c =
+    let s = c.loop-record.invariant in
+    let read = c.in_ok-record.ensures (given s.held) (λ kind yes post. post.1 s.held s.says) in
+    elim c.match-record.branch [
+      | in-Symbol+in_ok-add_symbol-in-Symbol w ↦ rw w.found-is (symbol-next _ _ _ s _ _ _ read w.in-Symbol.is _ (w.in_ok-add_symbol-in-Symbol.ensures s.held s.says))
+      | in-Row+in_ok-add_row-in-Row w ↦ rw w.found-is (row-next _ _ _ s _ _ _ read w.in-Row.is _ (w.in_ok-add_row-in-Row.ensures s.held s.says))
+    ]

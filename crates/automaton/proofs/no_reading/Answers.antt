@@ -1,6 +1,0 @@
-use Rattle.automaton.specs.Answers.{no_automaton}
-use Rattle.automaton.proofs.no_reading.Goals as goal
-
-pub returns : goal.returns
-unfolding no_automaton
-returns c = rw (c.no_arities-arities.ensures, c.no_rows-rows.ensures)
