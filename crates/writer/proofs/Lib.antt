@@ -1,5 +1,4 @@
-pub mod Stores
-pub mod Fitting
 pub mod Putting
+pub mod Fitting
 pub mod Writes
 pub mod Laws

@@ -1,43 +1,51 @@
 -- What the private parts of the writer promise one another. Nothing here needs to be believed: the public promise cites none of it.
-use Rattle.std.specs.Prelude.{ℕ, ◌+◌, ◌≤◌, ◌<◌, true, ◌≡◌, List, map, length, take}
-use Rattle.ground.specs.Decides.{Decides}
+use Rattle.std.specs.Prelude.{ℕ, ◌≤◌, ◌<◌, ◌≡◌, List, ◌++◌, map, ◌*◌, length, drop, Option, MatchOption}
 use Rattle.ground.specs.Lists.{All}
 use Rattle.automaton.specs.declared.Row.{Row}
 use Rattle.automaton.specs.declared.Automaton.{Automaton}
-use Rattle.automaton.specs.Held.{Rule, ValidRule, Valid, most_symbols, most_arity, most_rows}
+use Rattle.automaton.specs.Held.{ValidRule, Valid, most_arity}
 use Rattle.automaton.specs.File.{row_record, each, file_of}
 use Rattle.automaton.specs.Answers.{rule_held, held_by}
-use Rattle.writer.specs.declared.fits.Fitted.{Fitted}
 
--- the length of a row's record, 0 for a row that no file can hold
-pub record RowSized (states : ℕ) (known : List ℕ) (row : Row) (r : ℕ) : Type 0 where
-  pub unfit : r ≡ 0 → ValidRule states known (rule_held known row) → ⊥
-  pub fit : (r ≡ 0 → ⊥) → ValidRule states known (rule_held known row)
-  pub sized : (r ≡ 0 → ⊥) → r ≡ length (row_record (rule_held known row))
-  pub small : r ≤ 9
+-- a row that a file can hold, and the length of its record
+pub record RowFits (states : ℕ) (known : List ℕ) (row : Row) (size : ℕ) : Type 0 where
+  pub valid : ValidRule states known (rule_held known row)
+  pub sized : size ≡ length (row_record (rule_held known row))
+  pub small : size ≤ 9
 
-pub record RowsFit (states : ℕ) (known : List ℕ) (rules : List Rule) (r : Fitted) : Type 0 where
-  pub decided : Decides (All (ValidRule states known) rules) r.fine
-  pub counted : r.fine ≡ true → r.length ≡ length (each row_record rules)
-  pub small : r.length ≤ 576
+abbrev pub RowSized : ℕ → List ℕ → Row → Option ℕ → Type 0
+RowSized states known row r = MatchOption r (ValidRule states known (rule_held known row) → ⊥) (RowFits states known row)
 
-pub record RowThere (out : List ℕ) (at : ℕ) (known : List ℕ) (row : Row) (symbols : ℕ) : Type 0 where
-  pub known_few : symbols ≤ most_symbols
+-- rows that a file can hold, and the length of their records
+pub record RowsFit (states : ℕ) (known : List ℕ) (rows : List Row) (size : ℕ) : Type 0 where
+  pub valid : All (ValidRule states known) (map (rule_held known) rows)
+  pub sized : size ≡ length (each row_record (map (rule_held known) rows))
+  pub small : size ≤ 9 * length rows
+
+abbrev pub RowsSized : ℕ → List ℕ → List Row → Option ℕ → Type 0
+RowsSized states known rows r = MatchOption r (All (ValidRule states known) (map (rule_held known) rows) → ⊥) (RowsFit states known rows)
+
+-- a value that a file can hold, and the length of its file
+pub record FileFits (value : Automaton) (size : ℕ) : Type 0 where
+  pub valid : Valid (held_by value)
+  pub sized : size ≡ length (file_of (held_by value))
+
+abbrev pub FileSized : Automaton → Option ℕ → Type 0
+FileSized value r = MatchOption r (Valid (held_by value) → ⊥) (FileFits value)
+
+-- these bytes stand at the front then, all else is unchanged, and the answer is their number
+pub record Put (bytes before after : List ℕ) (count : ℕ) : Type 0 where
+  pub stored : after ≡ bytes ++ drop (length bytes) before
+  pub counted : count ≡ length bytes
+
+-- a row that fits, and room for its record
+pub record RowThere (out known : List ℕ) (row : Row) : Type 0 where
   pub small : All (λ a. a ≤ most_arity) known
-  pub less : row.symbol < symbols
-  pub room : at + length (row_record (rule_held known row)) ≤ length out
+  pub less : row.symbol < length known
+  pub room : length (row_record (rule_held known row)) ≤ length out
 
 -- rows that fit, and room for their records
-pub record RowsThere (out : List ℕ) (start : ℕ) (known : List ℕ) (rows : List Row) (count symbols : ℕ) : Type 0 where
-  pub few : count ≤ most_rows
-  pub known_few : symbols ≤ most_symbols
+pub record RowsThere (out known : List ℕ) (rows : List Row) : Type 0 where
   pub small : All (λ a. a ≤ most_arity) known
-  pub valid : (states : ℕ) × All (ValidRule states known) (map (rule_held known) (take count rows))
-  pub room : start + length (each row_record (map (rule_held known) (take count rows))) ≤ length out
-
--- the length of a value's file, 0 for a value that no file can hold
-pub record FileSized (value : Automaton) (r : ℕ) : Type 0 where
-  pub unfit : r ≡ 0 → Valid (held_by value) → ⊥
-  pub fit : (r ≡ 0 → ⊥) → Valid (held_by value)
-  pub sized : (r ≡ 0 → ⊥) → r ≡ length (file_of (held_by value))
-  pub long : (r ≡ 0 → ⊥) → length value.rows ≡ most_rows
+  pub valid : (states : ℕ) × All (ValidRule states known) (map (rule_held known) rows)
+  pub room : length (each row_record (map (rule_held known) rows)) ≤ length out

@@ -32,13 +32,10 @@ impl From<Result<usize, Refused>> for Writing {
 pub fn write(value: Automaton, out: &mut [u8]) -> Result<usize, Refused>
     ensures { Written value out.old out.new (writing_of result) }
 {
-    let length = fits::file_size(value);
-    if length == 0 {
-        return Err(Refused::Limit);
-    }
+    let length = fits::file_size(&value).ok_or(Refused::Limit)?;
     if out.len() < length {
         return Err(Refused::Short);
     }
-    puts::put_file(value, out);
+    puts::put_file(&value, out);
     Ok(length)
 }

@@ -1,41 +1,52 @@
-use native.Mathlib.Omega.{arith}
-use mathlib.Core.Path.{◌≡◌, sym, ◌∙◌}
-use lib.ListN.{length}
-use borrow.Author.Tests.{not-true, not-false}
+use Rattle.std.proofs.Common.{rules, arith, ◌≡◌, ◌≤◌, length, take, length-take-le, sym, ◌∙◌}
 use Rattle.ground.proofs.Deciding.{refuted}
-use Rattle.writer.proofs.Writes.{size_few, size-many, size-past, size_none, size-symbols, size-rows, size-wide, size-unruled, size_is}
-use borrow.Author.Rules.{rules}
+use Rattle.writer.proofs.Fitting.{all-decides, states-few, states-many, finals-past, symbols-few, symbols-many, rows-many, arities-wide, rows-unfit, file-fits}
 use Rattle.writer.proofs.fits.file_size.Goals as goal
+use Rattle.writer.proofs.fits.file_size.Goals.{then-value-lt1-via-then-value-lt1, then-value-lt1-via-else-value-lt1+then-value-gt-MOST_STATES, then-value-lt1-via-else-value-lt1+else-value-gt-MOST_STATES+then-past, then-value-lt1-2-via-then-value-lt1-2, then-value-lt1-2-via-else-value-lt1-2+then-value-gt-MOST_SYMBOLS, then-value-lt1-2-via-else-value-lt1-2+else-value-gt-MOST_SYMBOLS+then-value-gt-MOST_ROWS}
 
-pub returns-then-states-lt1 : goal.returns-then-states-lt1
-returns-then-states-lt1 c = size_few c.args.value c.if-states-lt1.true
+pub returns-then-value-lt1 : goal.returns-then-value-lt1
+returns-then-value-lt1 c =
+    let value = c.args.value.now in
+    elim c.then-value-lt1.branch [
+      | then-value-lt1-via-then-value-lt1 w ↦ states-few value w.if-value-lt1.true
+      | then-value-lt1-via-else-value-lt1+then-value-gt-MOST_STATES w ↦ states-many value w.if-value-gt-MOST_STATES.true
+      | then-value-lt1-via-else-value-lt1+else-value-gt-MOST_STATES+then-past w ↦ finals-past value (sym w.past.ensures ∙ w.if-past.true)
+    ]
 
-pub returns-then-states-gt-MOST_STATES : goal.returns-then-states-gt-MOST_STATES
-returns-then-states-gt-MOST_STATES c = size-many c.args.value c.if-states-gt-MOST_STATES.true
+pub returns-then-value-lt1-2 : goal.returns-then-value-lt1-2
+returns-then-value-lt1-2 c =
+    let value = c.args.value.now in
+    elim c.then-value-lt1-2.branch [
+      | then-value-lt1-2-via-then-value-lt1-2 w ↦ symbols-few value w.if-value-lt1-2.true
+      | then-value-lt1-2-via-else-value-lt1-2+then-value-gt-MOST_SYMBOLS w ↦ symbols-many value w.if-value-gt-MOST_SYMBOLS.true
+      | then-value-lt1-2-via-else-value-lt1-2+else-value-gt-MOST_SYMBOLS+then-value-gt-MOST_ROWS w ↦ rows-many value w.if-value-gt-MOST_ROWS.true
+    ]
 
-pub returns-then-past : goal.returns-then-past
-returns-then-past c = size-past c.args.value (sym c.past.ensures ∙ c.if-past.true)
+pub returns-then-not-all : goal.returns-then-not-all
+returns-then-not-all c =
+    let value = c.args.value.now in
+    let symbols : length value.arities ≡ 32 = search rules in
+    let rows : length value.rows ≡ 64 = search rules in
+    arities-wide value (omega arith) (omega arith)
+    (refuted (rw c.from.ensures at (all-decides (λ a. a ≤ 3) (take c.from.result value.arities) c.all.result (search rules))) c.if-not-all.true)
 
-pub returns-then-symbols-lt1 : goal.returns-then-symbols-lt1
-returns-then-symbols-lt1 c = size_none c.args.value c.if-symbols-lt1.true
+pub rows_size-requires-clause-all : goal.rows_size-requires-clause-all
+rows_size-requires-clause-all c = (all-decides (λ a. a ≤ 3) (take c.from.result c.args.value.now.arities) c.all.result (search rules)).only c.if-not-all.false
 
-pub returns-then-symbols-gt-MOST_SYMBOLS : goal.returns-then-symbols-gt-MOST_SYMBOLS
-returns-then-symbols-gt-MOST_SYMBOLS c = size-symbols c.args.value c.if-symbols-gt-MOST_SYMBOLS.true
-
-pub returns-then-count-gt-MOST_ROWS : goal.returns-then-count-gt-MOST_ROWS
-returns-then-count-gt-MOST_ROWS c = size-rows c.args.value c.if-count-gt-MOST_ROWS.true
-
-pub returns-then-not-arities_fit : goal.returns-then-not-arities_fit
-returns-then-not-arities_fit c = size-wide c.args.value (let l : length c.args.value.arities ≡ 32 = search rules in omega arith) (refuted c.arities_fit.ensures c.if-not-arities_fit.true)
-
-pub rows_fit-fitted-requires : goal.rows_fit-fitted-requires
-rows_fit-fitted-requires c = record { count_le_most_rows = c.if-count-gt-MOST_ROWS.false; symbols_le_most_symbols = c.if-symbols-gt-MOST_SYMBOLS.false; all = c.arities_fit.ensures.only c.if-not-arities_fit.false }
-
-pub returns-then-not-fitted : goal.returns-then-not-fitted
-returns-then-not-fitted c = size-unruled c.args.value (let l : length c.args.value.arities ≡ 32 = search rules in omega arith) (omega (arith, c.rows_fit-fitted.ensures.0)) (refuted c.rows_fit-fitted.ensures.1.decided (not-true _ c.if-not-fitted.true))
-
-pub overflow_add-result-2 : goal.overflow_add-result-2
-overflow_add-result-2 c = omega (arith, c.rows_fit-fitted.ensures.1.small, c.if-symbols-gt-MOST_SYMBOLS.false)
+pub returns-in_err-length : goal.returns-in_err-length
+returns-in_err-length c =
+    let value = c.args.value.now in
+    let symbols : length value.arities ≡ 32 = search rules in
+    let rows : length value.rows ≡ 64 = search rules in
+    rw c.from_residual.ensures (rows-unfit value (omega arith) (omega arith) (rw (c.from.ensures, c.from-2.ensures) at c.in_err-length.ensures))
 
 pub returns : goal.returns
-returns c = size_is c.args.value (let l : length c.args.value.arities ≡ 32 = search rules in omega arith) (omega (arith, c.rows_fit-fitted.ensures.0)) c.if-states-lt1.false c.if-states-gt-MOST_STATES.false (sym c.past.ensures ∙ c.if-past.false) c.if-symbols-lt1.false c.if-symbols-gt-MOST_SYMBOLS.false c.if-count-gt-MOST_ROWS.false (c.arities_fit.ensures.only c.if-not-arities_fit.false) c.rows_fit-fitted.result c.rows_fit-fitted.ensures.1 (not-false _ c.if-not-fitted.false) c.rows_fit-fitted.ensures.0
+returns c =
+    let value = c.args.value.now in
+    let symbols : length value.arities ≡ 32 = search rules in
+    let rows : length value.rows ≡ 64 = search rules in
+    let small = (all-decides (λ a. a ≤ 3) (take c.from.result value.arities) c.all.result (search rules)).only c.if-not-all.false in
+    rw (c.from.ensures, length-take-le value.symbols value.arities (omega arith))
+    (file-fits value (omega arith) (omega arith) c.if-value-lt1.false c.if-value-gt-MOST_STATES.false (sym c.past.ensures ∙ c.if-past.false)
+    c.if-value-lt1-2.false c.if-value-gt-MOST_SYMBOLS.false c.if-value-gt-MOST_ROWS.false (rw c.from.ensures at small) c.in_ok-length.length
+    (rw (c.from.ensures, c.from-2.ensures) at c.in_ok-length.ensures))

@@ -1,29 +1,26 @@
-use native.Mathlib.Omega.{arith}
-use mathlib.Core.Path.{◌≡◌, sym, ◌∙◌}
-use lib.ListN.{length}
-use Rattle.writer.proofs.Fitting.{row-unknown, row-aimless, arity-small, row-sourceless, row_fits}
-use borrow.Author.Rules.{rules}
+use Rattle.std.proofs.Common.{rules, ◌≡◌, ◌<◌, ◌≤◌, length, take, get_or}
+use Rattle.writer.proofs.Fitting.{all-decides, row-unknown, row-aimless, row-tested}
 use Rattle.writer.proofs.fits.row_size.Goals as goal
 
-pub returns-then-symbols-symbol : goal.returns-then-symbols-symbol
-returns-then-symbols-symbol c = row-unknown c.args.states c.args.symbols c.args.arities c.args.row (omega arith) c.if-symbols-symbol.true
+pub returns-in_err-get : goal.returns-in_err-get
+returns-in_err-get c =
+    let a = c.args in
+    let long : length a.row.now.sources ≡ 3 = search rules in
+    let none : length a.arities.now ≤ a.row.now.symbol = search rules in
+    rw c.from_residual.ensures (row-unknown a.arities.now a.row.now c.requires long a.states none)
 
 pub returns-then-states-row : goal.returns-then-states-row
 returns-then-states-row c =
     let a = c.args in
-    row-aimless a.states a.symbols a.arities a.row (omega arith) c.if-states-row.true
-
-pub sources_fit-requires : goal.sources_fit-requires
-sources_fit-requires c =
-    let a = c.args in
-    rw c.index-arity.ensures.0 (arity-small a.symbols a.arities a.row c.requires.all (let l : length a.row.sources ≡ 3 = search rules in l) c.if-symbols-symbol.false)
-
-pub returns-then-not-sources_fit : goal.returns-then-not-sources_fit
-returns-then-not-sources_fit c =
-    let a = c.args in
-    row-sourceless a.symbols a.arities a.row c.requires.all (let l : length a.row.sources ≡ 3 = search rules in l) c.if-symbols-symbol.false a.states (omega arith) (sym c.if-not-sources_fit.true ∙ rw c.index-arity.ensures.0 at c.sources_fit.ensures)
+    let long : length a.row.now.sources ≡ 3 = search rules in
+    row-aimless a.arities.now a.row.now c.requires long a.states c.if-states-row.true
 
 pub returns : goal.returns
 returns c =
     let a = c.args in
-    rw c.index-arity.ensures.0 (row_fits a.symbols a.arities a.row c.requires.all (let l : length a.row.sources ≡ 3 = search rules in l) c.if-symbols-symbol.false a.states (omega arith) c.if-states-row.false (sym c.if-not-sources_fit.false ∙ rw c.index-arity.ensures.0 at c.sources_fit.ensures))
+    let long : length a.row.now.sources ≡ 3 = search rules in
+    let less : a.row.now.symbol < length a.arities.now = search rules in
+    let arity : c.from-arity.result ≡ get_or a.arities.now a.row.now.symbol 0 = search rules in
+    row-tested a.arities.now a.row.now c.requires long a.states less c.if-states-row.false c.all.result
+    (rw arity at (all-decides (λ q. q < a.states) (take c.from-arity.result a.row.now.sources) c.all.result (search rules)))
+    c.then_some.result (rw arity at c.then_some.ensures)

@@ -1,39 +1,38 @@
-use native.Mathlib.Omega.{arith}
-use mathlib.Core.Path.{◌≡◌, ◌∙◌}
-use lib.ListN.{length}
-use Rattle.writer.proofs.Writes.{put-head-room, put-symbols-room, put-rows-room, put-end-room, put_whole}
-use borrow.Author.Rules.{rules}
+use Rattle.std.proofs.Common.{rules}
+use Rattle.automaton.specs.File.{two_bytes, head_record, end_record}
+use Rattle.writer.proofs.Writes.{few-symbols, few-rules, head-room, symbols-room, rows-there, end-room, file-put}
 use Rattle.writer.proofs.puts.put_file.Goals as goal
 
-pub put_head-requires : goal.put_head-requires
-put_head-requires c =
-    let a = c.args in
-    let p = c.requires in
-    put-head-room a.value (let l : length a.value.arities ≡ 32 = search rules in l) p.rows_len p.valid a.out.now p.value_in_bounds
+pub shared_ref_as_front-arities : goal.shared_ref_as_front-arities
+shared_ref_as_front-arities c = rw c.from.ensures (few-symbols c.args.value.now c.requires.valid)
 
-pub put_symbols-requires : goal.put_symbols-requires
-put_symbols-requires c =
-    let a = c.args in
-    let p = c.requires in
-    record { count_le_most_symbols = (put-symbols-room a.value (let l : length a.value.arities ≡ 32 = search rules in l) p.rows_len p.valid a.out.now p.value_in_bounds).0; count_in_bounds = omega (arith, c.put_head.auto.out, (put-symbols-room a.value (let l : length a.value.arities ≡ 32 = search rules in l) p.rows_len p.valid a.out.now p.value_in_bounds).1) }
+pub shared_ref_as_front-rows : goal.shared_ref_as_front-rows
+shared_ref_as_front-rows c = rw c.from-2.ensures (few-rules c.args.value.now c.requires.valid)
 
-pub put_rows-end-requires : goal.put_rows-end-requires
-put_rows-end-requires c =
-    let a = c.args in
-    let p = c.requires in
-    put-rows-room a.value (let l : length a.value.arities ≡ 32 = search rules in l) p.rows_len p.valid a.out.now p.value_in_bounds c.put_symbols.new.out (c.put_symbols.auto.out ∙ c.put_head.auto.out)
+pub put_record-at-requires-clause-room : goal.put_record-at-requires-clause-room
+put_record-at-requires-clause-room c = head-room c.args.value.now c.requires.valid (search rules) (search rules) c.args.out.now c.requires.room
 
-pub put_end-requires : goal.put_end-requires
-put_end-requires c =
-    let a = c.args in
-    let p = c.requires in
-    put-end-room a.value (let l : length a.value.arities ≡ 32 = search rules in l) p.rows_len p.valid a.out.now p.value_in_bounds c.put_rows-end.new.out c.put_rows-end.result (c.put_rows-end.auto.out ∙ c.put_symbols.auto.out ∙ c.put_head.auto.out) c.put_rows-end.ensures.0
+pub put_symbols-at-requires : goal.put_symbols-at-requires
+unfolding head_record two_bytes
+put_symbols-at-requires c =
+    rw c.from.ensures
+    (symbols-room c.args.value.now c.requires.valid (search rules) (search rules) c.args.out.now c.requires.room _ _ (rw c.to_le_bytes.ensures at c.put_record-at.ensures))
 
-pub shape_of-out : goal.shape_of-out
-shape_of-out c = c.put_end.auto.out ∙ c.put_rows-end.auto.out ∙ c.put_symbols.auto.out ∙ c.put_head.auto.out
+pub put_rows-at-requires : goal.put_rows-at-requires
+unfolding head_record two_bytes
+put_rows-at-requires c =
+    rw (c.from.ensures, c.from-2.ensures)
+    (rows-there c.args.value.now c.requires.valid (search rules) (search rules) c.args.out.now c.requires.room _ _ (rw c.to_le_bytes.ensures at c.put_record-at.ensures)
+    _ _ (rw c.from.ensures at c.put_symbols-at.ensures))
+
+pub put_record-requires-clause-room : goal.put_record-requires-clause-room
+unfolding head_record two_bytes
+put_record-requires-clause-room c =
+    end-room c.args.value.now c.requires.valid (search rules) (search rules) c.args.out.now c.requires.room _ _ (rw c.to_le_bytes.ensures at c.put_record-at.ensures)
+    _ _ (rw c.from.ensures at c.put_symbols-at.ensures) _ _ (rw (c.from.ensures, c.from-2.ensures) at c.put_rows-at.ensures)
 
 pub returns : goal.returns
+unfolding head_record two_bytes end_record
 returns c =
-    let a = c.args in
-    let p = c.requires in
-    rw (c.put_rows-end.ensures.1, c.put_symbols.ensures, c.put_head.ensures) at c.put_end.ensures ∙ put_whole a.value (let l : length a.value.arities ≡ 32 = search rules in l) p.rows_len p.valid a.out.now p.value_in_bounds c.put_rows-end.result c.put_rows-end.ensures.0
+    file-put c.args.value.now c.requires.valid (search rules) (search rules) c.args.out.now c.requires.room _ _ (rw c.to_le_bytes.ensures at c.put_record-at.ensures)
+    _ _ (rw c.from.ensures at c.put_symbols-at.ensures) _ _ (rw (c.from.ensures, c.from-2.ensures) at c.put_rows-at.ensures) _ _ c.put_record.ensures

@@ -1,29 +1,53 @@
-use native.Mathlib.Omega.{arith}
-use mathlib.Core.List.{[]}
-use Rattle.writer.proofs.Putting.{rows-put-start, row-there, rows-put-next, rows-put-done}
+use Rattle.std.proofs.Common.{[], get_or}
+use Rattle.automaton.specs.File.{row_record, each}
+use Rattle.automaton.specs.Answers.{rule_held}
+use Rattle.automaton.specs.declared.Row.{Row}
+use Rattle.writer.proofs.Putting.{puts-none, each-map, each-within, each-room, each-next, each-done}
+use Rattle.writer.proofs.Fitting.{row-valid, row-known}
 use Rattle.writer.proofs.puts.put_rows.Goals as goal
 
-pub loop-i-init : goal.loop-i-init
-loop-i-init c =
+pub loop-row-init : goal.loop-row-init
+unfolding each
+loop-row-init c = puts-none c.args.out.now
+
+pub slice_bounds-put_row-count : goal.slice_bounds-put_row-count
+slice_bounds-put_row-count c =
     let a = c.args in
-    rows-put-start a.out.now a.start a.symbols a.arities a.rows a.count
+    let l = c.loop-row in
+    each-within (λ row. row_record (rule_held a.arities.now row)) a.rows.now (record { symbol = 0; target = 0; sources = [] }) a.out.now
+    (rw (each-map row_record (rule_held a.arities.now) a.rows.now) at c.requires.room) l.out l.at l.row-index l.invariant l.auto.out
+
+pub slice_bounds-put_row-start : goal.slice_bounds-put_row-start
+slice_bounds-put_row-start c =
+    let a = c.args in
+    let l = c.loop-row in
+    each-within (λ row. row_record (rule_held a.arities.now row)) a.rows.now (record { symbol = 0; target = 0; sources = [] }) a.out.now
+    (rw (each-map row_record (rule_held a.arities.now) a.rows.now) at c.requires.room) l.out l.at l.row-index l.invariant l.auto.out
 
 pub put_row-at-requires : goal.put_row-at-requires
 put_row-at-requires c =
     let a = c.args in
-    let l = c.loop-i in
-    row-there a.out.now a.start a.symbols a.arities a.rows a.count c.requires (omega arith) (record { symbol = 0; target = 0; sources = [] }) l.out l.at l.i l.invariant c.loop-i-test.true (omega arith)
+    let l = c.loop-row in
+    let d : Row = record { symbol = 0; target = 0; sources = [] } in
+    record {
+      small = c.requires.small;
+      less = row-known c.requires.valid.0 a.arities.now (get_or a.rows.now l.row-index d) (row-valid c.requires.valid.0 a.arities.now a.rows.now l.row-index d c.loop-row-test.true c.requires.valid.1);
+      room = each-room (λ row. row_record (rule_held a.arities.now row)) a.rows.now d a.out.now
+          (rw (each-map row_record (rule_held a.arities.now) a.rows.now) at c.requires.room) l.out l.at l.row-index l.invariant l.auto.out c.loop-row-test.true;
+    }
 
-pub loop-i-preserved : goal.loop-i-preserved
-loop-i-preserved c =
+pub loop-row-preserved : goal.loop-row-preserved
+loop-row-preserved c =
     let a = c.args in
-    let l = c.loop-i in
-    rows-put-next a.out.now a.start a.symbols a.arities a.rows a.count c.requires (omega arith) (record { symbol = 0; target = 0; sources = [] }) l.out l.at l.i l.invariant c.loop-i-test.true (omega arith) c.put_row-at.new.out c.put_row-at.result c.put_row-at.auto.out c.put_row-at.ensures
-
-pub shape_of-out : goal.shape_of-out
-shape_of-out c = c.loop-i.invariant.same
+    let l = c.loop-row in
+    each-next (λ row. row_record (rule_held a.arities.now row)) a.rows.now (record { symbol = 0; target = 0; sources = [] }) a.out.now
+    (rw (each-map row_record (rule_held a.arities.now) a.rows.now) at c.requires.room) l.out l.at l.row-index l.invariant l.auto.out c.loop-row-test.true
+    c.put_row-at.new.out c.put_row-at.result c.put_row-at.ensures
 
 pub returns : goal.returns
 returns c =
     let a = c.args in
-    rows-put-done a.out.now a.start a.symbols a.arities a.rows a.count c.loop-i.out c.loop-i.at c.loop-i.i c.loop-i.invariant c.loop-i-test.false
+    let l = c.loop-row in
+    rw (each-map row_record (rule_held a.arities.now) a.rows.now)
+    (each-done (λ row. row_record (rule_held a.arities.now row)) a.rows.now (record { symbol = 0; target = 0; sources = [] }) a.out.now
+    (rw (each-map row_record (rule_held a.arities.now) a.rows.now) at c.requires.room) l.out l.at l.row-index l.invariant l.auto.out c.loop-row-test.false)

@@ -1,10 +1,8 @@
-use Prim.Native.Nat.{◌-◌}
-use lib.ListN.{take}
-use Rattle.writer.proofs.Putting.{RowsSoPut}
+use Rattle.std.proofs.Common.{take}
+use Rattle.automaton.specs.File.{row_record, each}
+use Rattle.automaton.specs.Answers.{rule_held}
+use Rattle.writer.specs.Inside.{Put}
 use Rattle.writer.proofs.puts.put_rows.Given as goal
 
-abbrev pub invariant-loop-i : goal.invariant-loop-i
-invariant-loop-i l = RowsSoPut l.initial.out l.out l.start l.at (take l.symbols l.arities) l.rows l.count l.i
-
-abbrev pub decreases-loop-i : goal.decreases-loop-i
-decreases-loop-i l = l.count - l.i
+abbrev pub invariant-loop-row : goal.invariant-loop-row
+invariant-loop-row l = Put (each (λ row. row_record (rule_held l.arities row)) (take l.row-index l.rows)) l.initial.out l.out l.at

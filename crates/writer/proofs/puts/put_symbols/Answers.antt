@@ -1,29 +1,30 @@
-use native.Mathlib.Omega.{arith}
-use Prim.Native.Nat.{ℕ, ◌+◌, ◌*◌}
-use mathlib.Core.Path.{◌≡◌, refl, ap, ◌∙◌}
-use mathlib.Core.List.{List}
-use lib.ListN.{get_or}
-use lib.Seq.{sets}
-use native.Mathlib.Nat.{le_antisymm}
-use Rattle.automaton.specs.File.{each, symbol_record}
-use Rattle.writer.proofs.Stores.{symbols-put-next}
+use Rattle.std.proofs.Common.{[], ◌∷◌, get_or}
+use Rattle.automaton.specs.File.{symbol_record, each}
+use Rattle.writer.proofs.Putting.{record-long, puts-none, each-within, each-room, each-next, each-done}
 use Rattle.writer.proofs.puts.put_symbols.Goals as goal
 
-pub loop-i-init : goal.loop-i-init
+pub loop-arity-init : goal.loop-arity-init
 unfolding each
-loop-i-init c = (omega arith, refl, refl)
+loop-arity-init c = puts-none c.args.out.now
 
-pub put_symbol-requires : goal.put_symbol-requires
-put_symbol-requires c = omega arith
+pub slice_bounds-put_record-count : goal.slice_bounds-put_record-count
+slice_bounds-put_record-count c = let l = c.loop-arity in each-within symbol_record c.args.arities.now 0 c.args.out.now c.requires l.out l.at l.arity-index l.invariant l.auto.out
 
-pub loop-i-preserved : goal.loop-i-preserved
-loop-i-preserved c =
-    let a = c.args in
-    let l = c.loop-i in
-    (omega arith, c.put_symbol.auto.out ∙ l.invariant.1, c.put_symbol.ensures ∙ ap (λ (o : List ℕ). sets o (7 + 5 * l.i) (symbol_record (get_or a.arities l.i 0))) l.invariant.2 ∙ symbols-put-next a.out.now a.arities l.i (omega arith))
+pub slice_bounds-put_record-start : goal.slice_bounds-put_record-start
+slice_bounds-put_record-start c = let l = c.loop-arity in each-within symbol_record c.args.arities.now 0 c.args.out.now c.requires l.out l.at l.arity-index l.invariant l.auto.out
 
-pub shape_of-out : goal.shape_of-out
-shape_of-out c = c.loop-i.invariant.1
+pub put_record-at-requires-clause-room : goal.put_record-at-requires-clause-room
+unfolding symbol_record
+put_record-at-requires-clause-room c =
+    let l = c.loop-arity in
+    let arity = get_or c.args.arities.now l.arity-index 0 in
+    rw (record-long 2 (arity ∷ [])) at (each-room symbol_record c.args.arities.now 0 c.args.out.now c.requires l.out l.at l.arity-index l.invariant l.auto.out c.loop-arity-test.true)
+
+pub loop-arity-preserved : goal.loop-arity-preserved
+unfolding symbol_record
+loop-arity-preserved c =
+    let l = c.loop-arity in
+    each-next symbol_record c.args.arities.now 0 c.args.out.now c.requires l.out l.at l.arity-index l.invariant l.auto.out c.loop-arity-test.true c.put_record-at.new.out c.put_record-at.result c.put_record-at.ensures
 
 pub returns : goal.returns
-returns c = let e : c.loop-i.i ≡ c.args.count = le_antisymm c.loop-i.invariant.0 c.loop-i-test.false in rw e at c.loop-i.invariant.2
+returns c = let l = c.loop-arity in each-done symbol_record c.args.arities.now 0 c.args.out.now c.requires l.out l.at l.arity-index l.invariant l.auto.out c.loop-arity-test.false
