@@ -10,7 +10,7 @@ use sets::StateSet;
 mod climb;
 mod columns;
 mod rounds;
-mod scan;
+mod stack;
 
 // What a run reaches: the states, and whether a final one is among them.
 #[derive(Clone, Copy)]
@@ -67,7 +67,7 @@ impl From<Result<StateSet, Refused>> for ProductiveStates {
 pub fn run(file: &[u8], words: &[u16]) -> Result<Reached, Refused>
     ensures { RunPromise file.now words.now (run_of result) }
 {
-    climb::answer(automaton::read(file)?, words)
+    climb::answer(&automaton::read(file)?, words)
 }
 
 // The productive states of the file's automaton.
@@ -75,5 +75,5 @@ pub fn productive(file: &[u8]) -> Result<StateSet, Refused>
     ensures { ProductivePromise file.now (states_of result) }
 {
     let value = automaton::read(file)?;
-    Ok(StateSet(rounds::rounds(value)))
+    Ok(StateSet(rounds::rounds(&value)))
 }

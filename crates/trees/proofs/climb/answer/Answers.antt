@@ -1,24 +1,23 @@
+use Prim.Native.Nat.{ℕ, ◌<◌, ◌≤◌}
 use native.Mathlib.Omega.{arith}
+use mathlib.Core.Path.{◌≡◌, sym, ap, ◌∙◌}
 use lib.ListN.{length}
-use borrow.Author.Tests.{le-leb, lt-leb}
+use borrow.Author.Tests.{lt-leb}
+use Rattle.automaton.specs.Answers.{held_by}
 use Rattle.trees.specs.Words.{most_words}
 use Rattle.trees.specs.Piles.{words_answer}
+use Rattle.trees.proofs.Stacking.{answered}
 use Rattle.trees.proofs.climb.answer.Goals as goal
 
-pub in_store-requires : goal.in_store-requires
-in_store-requires c = record { valid = c.requires; words_in_bounds = omega arith; in_bounds = omega arith }
-
-pub returns-then-count-le-SMALL : goal.returns-then-count-le-SMALL
+pub returns-then-words-gt-MOST_WORDS : goal.returns-then-words-gt-MOST_WORDS
 unfolding words_answer
-returns-then-count-le-SMALL c = rw (le-leb (length c.args.words.now) most_words (omega arith)) c.in_store.ensures
+returns-then-words-gt-MOST_WORDS c = rw (lt-leb (length c.args.words.now) most_words (omega arith))
 
-pub in_store-requires-then-count-le-MOST_WORDS : goal.in_store-requires-then-count-le-MOST_WORDS
-in_store-requires-then-count-le-MOST_WORDS c = record { valid = c.requires; words_in_bounds = omega arith; in_bounds = omega arith }
+pub returns-then-words-le-SMALL : goal.returns-then-words-le-SMALL
+unfolding held_by
+returns-then-words-le-SMALL c = c.reached.ensures ∙ answered (held_by c.args.a.now) c.args.words.now _ (omega arith) c.climb.ensures
 
-pub returns-then-count-le-MOST_WORDS : goal.returns-then-count-le-MOST_WORDS
-unfolding words_answer
-returns-then-count-le-MOST_WORDS c = rw (le-leb (length c.args.words.now) most_words (omega arith)) c.in_store-then-count-le-MOST_WORDS.ensures
-
-pub returns : goal.returns
-unfolding words_answer
-returns c = rw (lt-leb (length c.args.words.now) most_words (omega arith))
+pub returns-else-words-le-SMALL : goal.returns-else-words-le-SMALL
+unfolding held_by
+returns-else-words-le-SMALL c =
+    c.reached-else-words-le-SMALL.ensures ∙ answered (held_by c.args.a.now) c.args.words.now _ (omega arith) c.climb-else-words-le-SMALL.ensures

@@ -1,43 +1,35 @@
-use Prim.Native.Nat.{◌-◌}
-use mathlib.Core.Path.{◌≡◌, refl}
-use lib.ListN.{get_or, length-set}
-use Rattle.trees.proofs.Stacking.{leaves_none, no_symbol, too_few, one_more, leaves_all}
+use Prim.Native.Nat.{ℕ, ◌<◌, ◌≤◌}
+use mathlib.Core.Path.{◌≡◌, sym, ap, ◌∙◌}
+use lib.ListN.{length}
 use native.Mathlib.Omega.{arith}
+use Rattle.std.proofs.Common.{rules}
+use Rattle.std.proofs.lemmas.List.{length_push, length-reverse}
+use Rattle.std.proofs.lemmas.Iterator.Adapters.{YieldsList-from_rev_slice}
+use Rattle.std.proofs.lemmas.Iterator.Consumers.{YieldsList-turn, YieldsList-end}
+use Rattle.automaton.specs.Answers.{held_by}
+use Rattle.trees.proofs.Stacking.{left-none, left-broken, left-more, room-left, left-all}
 use Rattle.trees.proofs.climb.climb.Goals as goal
 
-pub loop-i-init : goal.loop-i-init
-loop-i-init c = let args = c.args in (omega arith, omega arith, refl, leaves_none args.symbols args.arities args.t.now args.words.now _)
+pub loop-word-init : goal.loop-word-init
+loop-word-init g c = rw c.new-pile.ensures (left-none (held_by c.args.a.now) c.args.words.now)
 
-pub returns-then-symbols-f : goal.returns-then-symbols-f
-returns-then-symbols-f c =
-    let args = c.args in
-    let loop = c.loop-i in
-    no_symbol args.symbols args.arities args.t.now args.words.now loop.i c.at-f.result loop.pile loop.depth c.loop-i-test.true loop.invariant.0 c.at-f.ensures loop.invariant.3 _ c.if-symbols-f.true
+pub put-requires : goal.put-requires
+put-requires g c =
+    let turn = YieldsList-turn (YieldsList-from_rev_slice c.args.words.now cc) c.loop-word.yielded _ c.loop-word.yielded_by _ _ c.in-Some.field-0 c.in-Some.is c.next.ensures.steps in
+    let room = room-left (held_by c.args.a.now) c.args.words.now (length c.loop-word.yielded) c.in-Some.field-0.now c.loop-word.pile turn c.loop-word.invariant in
+    (search rules, (c.requires.valid, (c.requires.tabled, (omega (arith, room), c.requires.places_fit))))
 
-pub returns-then-depth-arity : goal.returns-then-depth-arity
-returns-then-depth-arity c =
-    let args = c.args in
-    let loop = c.loop-i in
-    too_few args.symbols args.arities args.t.now args.words.now loop.i c.at-f.result loop.pile loop.depth c.loop-i-test.true loop.invariant.0 c.at-f.ensures loop.invariant.3 _ c.if-symbols-f.false c.if-depth-arity.true
+pub returns-in_err-put : goal.returns-in_err-put
+returns-in_err-put g c =
+    let turn = YieldsList-turn (YieldsList-from_rev_slice c.args.words.now cc) c.loop-word.yielded _ c.loop-word.yielded_by _ _ c.in-Some.field-0 c.in-Some.is c.next.ensures.steps in
+    rw c.from_residual.ensures (left-broken (held_by c.args.a.now) c.args.words.now (length c.loop-word.yielded) c.in-Some.field-0.now c.loop-word.pile turn c.loop-word.invariant c.in_err-put.ensures)
 
-pub over-requires : goal.over-requires
-over-requires c = record { f_lt_most_symbols = omega arith; arity_in_bounds = omega arith; table_places_in_bounds = omega arith }
-
-pub loop-i-preserved : goal.loop-i-preserved
-loop-i-preserved c =
-    let args = c.args in
-    let loop = c.loop-i in
-    let read = c.at-f in (
-      omega arith,
-      omega arith,
-      simp length-set loop.invariant.2,
-      one_more args.symbols args.arities args.t.now args.words.now loop.i read.result loop.pile loop.depth c.loop-i-test.true loop.invariant.0 read.ensures loop.invariant.3 (loop.depth - get_or args.arities read.result 0) c.over.result
-          c.if-symbols-f.false (omega arith) (omega arith) c.over.ensures,
-    )
+pub loop-word-preserved : goal.loop-word-preserved
+loop-word-preserved g c =
+    let turn = YieldsList-turn (YieldsList-from_rev_slice c.args.words.now cc) c.loop-word.yielded _ c.loop-word.yielded_by _ _ c.in-Some.field-0 c.in-Some.is c.next.ensures.steps in
+    rw (length_push c.loop-word.yielded c.in-Some.field-0) (left-more (held_by c.args.a.now) c.args.words.now (length c.loop-word.yielded) c.in-Some.field-0.now c.loop-word.pile turn c.loop-word.invariant _ c.in_ok-put.ensures)
 
 pub returns : goal.returns
-returns c =
-    let args = c.args in
-    let loop = c.loop-i in
-    let start : loop.i ≡ 0 = omega arith in
-    leaves_all args.symbols args.arities args.t.now args.words.now loop.pile loop.depth (rw start at loop.invariant.3)
+returns g c =
+    let end = YieldsList-end (YieldsList-from_rev_slice c.args.words.now cc) c.loop-word.yielded _ c.loop-word.yielded_by _ _ c.in-None.is c.next.ensures.steps in
+    c.only.ensures ∙ left-all (held_by c.args.a.now) c.args.words.now (length c.loop-word.yielded) c.loop-word.pile (end.1 ∙ length-reverse c.args.words.now) c.loop-word.invariant
