@@ -1,5 +1,12 @@
 -- The pile in memory, for the contracts of the private functions.
 use Rattle.std.specs.Prelude.{ℕ, zero, suc, ◌≤◌, ◌<◌, ◌≡◌, List, [], ◌∷◌, length, get_or, take, drop, Option, None, Some, MatchOption}
+use Rattle.trees.specs.Words.{most_words}
+
+-- so many places hold so many sets
+pub record Holds (room : ℕ) (places : List ℕ) (depth : ℕ) : Type 0 where
+  pub long : length places ≡ room
+  pub within : depth ≤ room
+  pub few : room ≤ most_words
 
 -- the first `depth` places, from the top down
 unfoldable pub down : List ℕ → ℕ → List ℕ

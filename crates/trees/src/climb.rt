@@ -47,7 +47,8 @@ fn climb<const PLACES: usize>(a: &Automaton, columns: &Columns, words: &[u16]) -
     requires places_fit { PLACES ≤ most_words }
     ensures { result ≡ one_left (pile_of (held_by a.now) words.now) }
 {
-    let mut pile: Stack<PLACES> = Stack::new();
+    let mut places = [0; PLACES];
+    let mut pile = Stack::new(&mut places);
     for &word in words.iter().rev() {
         put(a, columns, word, &mut pile)?;
     }

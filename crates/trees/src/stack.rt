@@ -2,33 +2,33 @@
 ghost use Rattle.std.specs.Prelude.{◌≡◌, ◌<◌, ◌≤◌, List, [], ◌∷◌, ℕ, length};
 ghost use Rattle.automaton.specs.Held.{most_arity};
 ghost use Rattle.trees.specs.Words.{most_words};
-ghost use Rattle.trees.specs.Stacks.{down, alone, TakesOff};
+ghost use Rattle.trees.specs.Stacks.{Holds, down, alone, TakesOff};
 
 use automaton::SOURCE_PLACES;
 use std::marker::Model;
 
 #[derive(Drop)]
-pub struct Stack<const PLACES: usize> {
-    places: [u16; PLACES],
+pub struct Stack<'a, const PLACES: usize> {
+    places: &'a mut [u16; PLACES],
     depth: usize,
 }
 
 // Clauses see the sets, from the top down.
-impl<const PLACES: usize> Model for Stack<PLACES> {
+impl<'a, const PLACES: usize> Model for Stack<'a, PLACES> {
     ghost Value = { List ℕ };
 
-    ghost view = { λ s. down s.places s.depth };
+    ghost view = { λ s. down s.places.now s.depth };
 
-    ghost invariant = { λ s. s.depth ≤ PLACES };
+    ghost invariant = { λ s. Holds PLACES s.places.now s.depth };
 }
 
-impl<const PLACES: usize> Stack<PLACES> {
-    pub fn new() -> Self
+impl<'a, const PLACES: usize> Stack<'a, PLACES> {
+    pub fn new(places: &'a mut [u16; PLACES]) -> Self
         requires { PLACES ≤ most_words }
         ensures { result ≡ [] }
     {
         Stack {
-            places: [0; PLACES],
+            places,
             depth: 0,
         }
     }
@@ -58,8 +58,8 @@ impl<const PLACES: usize> Stack<PLACES> {
     }
 
     // The set that stands alone; none where there are none or more.
-    pub fn only(&self) -> Option<u16>
-        ensures { result ≡ alone self.now }
+    pub fn only(self) -> Option<u16>
+        ensures { result ≡ alone self.entry }
     {
         if self.depth == 1 {
             Some(self.places[0])
