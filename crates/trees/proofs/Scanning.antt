@@ -3,7 +3,7 @@ use Prim.Native.Nat.{ℕ, suc, ◌+◌, ◌^◌, ◌<◌}
 use native.Mathlib.Omega.{arith}
 use native.Mathlib.Nat.{lt_of_le_of_lt}
 use native.Mathlib.Numerals.{add-one}
-use mathlib.Core.Bool.{Bool, true, false, cond, ◌&&◌, ◌||◌}
+use mathlib.Core.Bool.{Bool, true, false, cond, ◌&&◌, ◌||◌, or-false}
 use mathlib.Core.Path.{◌≡◌, refl, sym, ◌∙◌, ap, ap₂}
 use mathlib.Core.List.{List}
 use Rattle.std.specs.Prelude.{Option, None, Some}
@@ -11,7 +11,7 @@ use lib.ListN.{get_or}
 use lib.Bits.{bit_and, bit_or, bit_xor, and_le_l, and_le_r, or_add_and, xor_add_and, and_zero_l}
 use lib.Dec.{eqb}
 use lib.Pow.{pow-lt}
-use borrow.Author.Tests.{eqb-true, eq-eqb}
+use borrow.Author.Tests.{eqb-true, eq-eqb, ne_eqb}
 use Rattle.sets.specs.Members.{has}
 use Rattle.sets.proofs.Bits.{has-or, has-and, has-pow, has-zero, same-members}
 use Rattle.trees.specs.declared.columns.Columns.{Columns}
@@ -63,9 +63,9 @@ missed o x a y b z c =
     (or-none (bit_xor y (bit_and y b)) (bit_xor z (bit_and z c)) ∙ ap₂ ◌&&◌ (xor-none y (bit_and y b)) (xor-none z (bit_and z c))))
 
 -- one more row: its target joins where it fires
-has_more : (found target q : ℕ) (b : Bool) → has (bit_or found (cond b target 0)) q ≡ (has found q || (b && has target q))
+has_more : (found target q : ℕ) (b : Bool) → has (cond b (bit_or found target) found) q ≡ (has found q || (b && has target q))
 has_more found target q true = has-or found target q
-has_more found target q false = has-or found 0 q ∙ ap (λ (b : Bool). has found q || b) (has-zero q)
+has_more found target q false = sym (or-false (has found q))
 
 -- ---- what is needed
 
@@ -109,12 +109,14 @@ module _ (columns : Columns) (symbol : Option ℕ) (sets : List ℕ) where
   unfolding any_below
   scan-none q = has-zero q
 
-  -- one more row: what tells its symbol from the other, and what is kept of its target
-  pub scan-more : (i found o kept : ℕ) → o ≡ differs (get_or columns.symbols i 0) symbol
-      → kept ≡ cond (eqb (missed_of o (get_or columns.firsts i 0) (get_or sets 0 0) (get_or columns.seconds i 0) (get_or sets 1 0) (get_or columns.thirds i 0) (get_or sets 2 0)) 0) (get_or columns.targets i 0) 0
-      → Sofar i found → Sofar (i + 1) (bit_or found kept)
+  -- what row i misses, where this tells its symbol from the one that is asked for
+  abbrev missed_at : (i o : ℕ) → ℕ
+  missed_at i o = missed_of o (get_or columns.firsts i 0) (get_or sets 0 0) (get_or columns.seconds i 0) (get_or sets 1 0) (get_or columns.thirds i 0) (get_or sets 2 0)
+
+  -- one more row
+  scan-more : (i found next o : ℕ) → o ≡ differs (get_or columns.symbols i 0) symbol → next ≡ cond (eqb (missed_at i o) 0) (bit_or found (get_or columns.targets i 0)) found → Sofar i found → Sofar (i + 1) next
   unfolding any_below fires
-  scan-more i found o kept eo e before q =
+  scan-more i found next o eo e before q =
       let x = get_or columns.firsts i 0 in
       let y = get_or columns.seconds i 0 in
       let z = get_or columns.thirds i 0 in
@@ -122,9 +124,12 @@ module _ (columns : Columns) (symbol : Option ℕ) (sets : List ℕ) where
       let a = get_or sets 0 0 in
       let b = get_or sets 1 0 in
       let c = get_or sets 2 0 in
-      ap (λ (n : ℕ). has (bit_or found n) q) e ∙ has_more found t q (eqb (missed_of o x a y b z c) 0)
-      ∙ ap₂ ◌||◌ (before q) (ap (λ (m : Bool). m && has t q) (missed o x a y b z c ∙ ap (λ (m : Bool). m && (within x a && (within y b && within z c))) own))
+      ap (λ (n : ℕ). has n q) e ∙ has_more found t q (eqb (missed_of o x a y b z c) 0)
+      ∙ ap₂ ◌||◌ (before q) (ap (λ (m : Bool). m && has t q) (missed o x a y b z c ∙ ap (λ (m : Bool). m && (within x a && (within y b && within z c))) (ap (λ (n : ℕ). eqb n 0) eo ∙ other_none (get_or columns.symbols i 0) symbol)))
       ∙ ap (λ (n : ℕ). any_below n (λ j. fires columns symbol sets j && has (get_or columns.targets j 0) q)) (sym (add-one i))
-    where
-      own : eqb o 0 ≡ asked symbol (get_or columns.symbols i 0)
-      own = ap (λ (n : ℕ). eqb n 0) eo ∙ other_none (get_or columns.symbols i 0) symbol
+
+  pub scan-fired : (i found o : ℕ) → o ≡ differs (get_or columns.symbols i 0) symbol → missed_at i o ≡ 0 → Sofar i found → Sofar (i + 1) (bit_or found (get_or columns.targets i 0))
+  scan-fired i found o eo none before = scan-more i found (bit_or found (get_or columns.targets i 0)) o eo (rw (eq-eqb (missed_at i o) 0 none)) before
+
+  pub scan-missed : (i found o : ℕ) → o ≡ differs (get_or columns.symbols i 0) symbol → (missed_at i o ≡ 0 → ⊥) → Sofar i found → Sofar (i + 1) found
+  scan-missed i found o eo some before = scan-more i found found o eo (rw (ne_eqb (missed_at i o) 0 some)) before

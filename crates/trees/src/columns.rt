@@ -1,11 +1,12 @@
 // The rows of an automaton, column by column: made once for each call, so that all rows can be tested at once.
-ghost use Rattle.std.specs.Prelude.{◌≡◌, ℕ, ◌<◌, get_or, cond};
+ghost use Rattle.std.specs.Prelude.{◌≡◌, ℕ, ◌<◌, get_or};
 ghost use Rattle.sets.specs.Members.{state_width};
 ghost use Rattle.automaton.specs.Held.{Valid, most_symbols, most_arity, most_rows};
 ghost use Rattle.automaton.specs.Answers.{held_by};
 ghost use Rattle.trees.specs.Columns.{need_at, differs, entered, Whole, Tabled, Scanned};
 
 use automaton::{Automaton, ROW_PLACES, Row, SOURCE_PLACES, SYMBOL_PLACES};
+use std::array;
 
 // Row i has place i of each column. Past the rows a column is 0: a place without a row needs nothing and aims at no state.
 #[derive(Drop)]
@@ -34,18 +35,19 @@ fn needed(sources: [u8; SOURCE_PLACES], arity: u8, place: usize) -> u16
     }
 }
 
+// What it needs at all of its child places.
+fn needs(sources: [u8; SOURCE_PLACES], arity: u8) -> [u16; SOURCE_PLACES]
+    requires { (place : ℕ) → place < arity → get_or sources place 0 < state_width }
+    ensures { (place : ℕ) → place < most_arity → get_or result place 0 ≡ need_at sources arity place }
+{
+    array::from_fn(|place| needed(sources, arity, place))
+}
+
 // What tells a row's symbol from the one that is asked for, in bits. Where none is asked for, symbols do not count.
 fn other(own: u16, symbol: Option<u16>) -> u16
     ensures { result ≡ differs own symbol }
 {
     symbol.map_or(0, |asked| own ^ asked)
-}
-
-// The set, where the test holds; else the empty set.
-fn keep(test: bool, set: u16) -> u16
-    ensures { result ≡ cond test set 0 }
-{
-    if test { set } else { 0 }
 }
 
 impl Columns {
@@ -69,9 +71,10 @@ impl Columns {
     {
         let target: u16 = 1 << row.target;
         self.symbols[i] = u16::from(row.symbol);
-        self.firsts[i] = needed(row.sources, arity, 0);
-        self.seconds[i] = needed(row.sources, arity, 1);
-        self.thirds[i] = needed(row.sources, arity, 2);
+        let [first, second, third] = needs(row.sources, arity);
+        self.firsts[i] = first;
+        self.seconds[i] = second;
+        self.thirds[i] = third;
         self.targets[i] = target;
         self.leaves[usize::from(row.symbol)] |= target;
     }
@@ -98,7 +101,7 @@ impl Columns {
     }
 
     // The targets of those rows that have the symbol, where one is asked for, and find what they need at their child places in these sets.
-    // No branch: each number is read before the test, and the pick is a function of its own, so that the processor takes many rows at once.
+    // All numbers of a row are read before the test, so that the machine code has no branch and takes many rows at once.
     pub fn scan(&self, symbol: Option<u16>, sets: [u16; SOURCE_PLACES]) -> u16
         ensures { Scanned self.now symbol sets result }
     {
@@ -112,7 +115,9 @@ impl Columns {
             let target = self.targets[i];
             let missed = other(own, symbol)
                 | ((first ^ (first & a)) | ((second ^ (second & b)) | (third ^ (third & c))));
-            found |= keep(missed == 0, target);
+            if missed == 0 {
+                found |= target;
+            }
         }
         found
     }

@@ -1,3 +1,4 @@
+use native.Mathlib.Omega.{arith}
 use Rattle.sets.specs.Members.{state_width}
 use Rattle.sets.proofs.Bits.{shifted}
 use Rattle.trees.specs.Columns.{entered}
@@ -6,4 +7,4 @@ use Rattle.trees.proofs.columns.Columns.enter.Goals as goal
 pub returns-clause-made : goal.returns-clause-made
 unfolding entered
 returns-clause-made c =
-    rw (c.from.ensures, c.from-2.ensures, c.needed.ensures, c.needed-2.ensures, c.needed-3.ensures, shifted state_width c.args.row.target c.requires.target_lt_state_width)
+    rw (c.from.ensures, c.from-2.ensures, c.needs.ensures 0 (omega arith), c.needs.ensures 1 (omega arith), c.needs.ensures 2 (omega arith), shifted state_width c.args.row.target c.requires.target_lt_state_width)
