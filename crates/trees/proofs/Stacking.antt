@@ -17,19 +17,15 @@ use lib.Seq.{drop-cons, get_or-set_same, get_or-set_other}
 use borrow.Author.Tests.{eqb-true, eq-eqb, le-leb}
 use Rattle.sets.specs.Members.{has, state_width}
 use Rattle.sets.proofs.Bits.{has-and, has-zero, same-members}
-use Rattle.automaton.specs.Held.{Held, Valid, most_symbols, most_arity}
+use Rattle.automaton.specs.Held.{Held, Valid, most_arity}
 use Rattle.trees.specs.Words.{KnownIn, arity_in, most_words}
-use Rattle.automaton.specs.Refusals.{refusal}
-use Rattle.trees.specs.declared.ReachedStates.{ReachedStates}
-use Rattle.trees.specs.Promises.{no_run}
 use Rattle.trees.specs.Stacks.{down, alone, TakenOff}
-use Rattle.trees.specs.Piles.{meets, reached_from, Pile, broken, pile, put, pile_of, run_to, pile_answer, one_left, tree_answer, words_answer}
+use Rattle.trees.specs.Piles.{meets, reached_from, Pile, broken, pile, put, pile_of, pile_answer, one_left, tree_answer, words_answer}
 use Rattle.trees.specs.declared.columns.Columns.{Columns}
 use Rattle.trees.specs.Columns.{Tabled, Scanned}
-use Rattle.ground.specs.Lists.{firsts}
-use Rattle.ground.proofs.Lists.{below-pick, below-some, get_or-firsts, length-firsts}
+use Rattle.ground.proofs.Lists.{below-pick, below-some}
 use Rattle.trees.proofs.Piling.{put-done, few-sets, stay-broken}
-use Rattle.trees.proofs.Firing.{small-arity, scan-reached, leaf-reached}
+use Rattle.trees.proofs.Firing.{scan-reached, leaf-reached}
 
 pub length-down : (places : List ℕ) (depth : ℕ) → length (down places depth) ≡ depth
 unfolding down
@@ -53,17 +49,17 @@ drop-down places (suc k) base zero e = absurd (omega arith)
 drop-down places (suc k) base (suc depth) e = drop-down places k base depth (omega arith)
 
 -- one set, or another number of them
-pub down-one : (places : List ℕ) (depth : ℕ) → depth ≡ 1 → Some (get_or places 0 0) ≡ alone (down places depth)
+pub one_alone : (places : List ℕ) (depth : ℕ) (sets : List ℕ) → down places depth ≡ sets → depth ≡ 1 → Some (get_or places 0 0) ≡ alone sets
 unfolding down
-down-one places zero e = absurd (omega arith)
-down-one places (suc zero) e = refl
-down-one places (suc (suc depth)) e = absurd (omega arith)
+one_alone places zero sets e h = absurd (omega arith)
+one_alone places (suc zero) sets e h = ap alone e
+one_alone places (suc (suc depth)) sets e h = absurd (omega arith)
 
-pub down-not_one : (places : List ℕ) (depth : ℕ) → (depth ≡ 1 → ⊥) → None ≡ alone (down places depth)
+pub others_none : (places : List ℕ) (depth : ℕ) (sets : List ℕ) → down places depth ≡ sets → (depth ≡ 1 → ⊥) → None ≡ alone sets
 unfolding down
-down-not_one places zero n = refl
-down-not_one places (suc zero) n = absurd (n refl)
-down-not_one places (suc (suc depth)) n = refl
+others_none places zero sets e n = ap alone e
+others_none places (suc zero) sets e n = absurd (n refl)
+others_none places (suc (suc depth)) sets e n = ap alone e
 
 -- the top one, two or three
 pub tops : (places : List ℕ) (arity base depth : ℕ) → depth ≡ arity + base → 1 ≤ arity → arity ≤ most_arity

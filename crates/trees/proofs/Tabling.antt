@@ -8,7 +8,7 @@ use mathlib.Core.Path.{◌≡◌, refl, sym, ◌∙◌, ap, ap₂, subst}
 use mathlib.Core.List.{List, [], ◌∷◌, ◌++◌, map}
 use lib.Bits.{bit_or}
 use lib.Dec.{eqb}
-use lib.ListN.{length, get_or, set, take, replicate, length-map, length-set, get_or-replicate, get_or-eq_default}
+use lib.ListN.{length, get_or, set, take, replicate, length-map, get_or-replicate, get_or-eq_default}
 use lib.Seq.{take-suc, length-take-le, get_or-take, get_or-set_same, get_or-set_other}
 use borrow.Author.Tests.{eqb-true, eqb-false}
 use Rattle.sets.specs.Members.{has}

@@ -3,7 +3,7 @@
 use Rattle.std.specs.Prelude.{ℕ, Bool, true, false, cond, ◌&&◌, List, [], ◌∷◌, ◌≡◌, leb, ltb, eqb, length, take, drop, Option, None, Some, MatchOption}
 use Rattle.sets.specs.Members.{has, set_of, state_width}
 use Rattle.automaton.specs.Refusals.{refusal, no_refusal}
-use Rattle.automaton.specs.Held.{Rule, Held, Valid}
+use Rattle.automaton.specs.Held.{Rule, Held}
 use Rattle.trees.specs.declared.ReachedStates.{ReachedStates}
 use Rattle.trees.specs.Words.{arity_in, most_words}
 use Rattle.trees.specs.Promises.{no_run}

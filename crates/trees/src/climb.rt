@@ -20,7 +20,12 @@ const SMALL: usize = 64;
 const MOST_WORDS: usize = 4096;
 
 // One more word, on the left of those that were read: its set in place of its subtrees' on the pile. None where the symbol is unknown or finds too few subtrees.
-fn put<const PLACES: usize>(a: &Automaton, columns: &Columns, word: u16, pile: &mut Stack<PLACES>) -> Option<()>
+fn put<const PLACES: usize>(
+    a: &Automaton,
+    columns: &Columns,
+    word: u16,
+    pile: &mut Stack<PLACES>,
+) -> Option<()>
     requires valid { Valid (held_by a.now) }
     requires tabled { Tabled (held_by a.now).rules columns.now }
     requires room { length pile.old < PLACES }

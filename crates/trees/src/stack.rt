@@ -27,10 +27,7 @@ impl<'a, const PLACES: usize> Stack<'a, PLACES> {
         requires { PLACES ≤ most_words }
         ensures { result ≡ [] }
     {
-        Stack {
-            places,
-            depth: 0,
-        }
+        Stack { places, depth: 0 }
     }
 
     // Takes so many sets off, the first from the top; none where there are too few. Of the three numbers those past the first so many mean nothing.
@@ -58,6 +55,7 @@ impl<'a, const PLACES: usize> Stack<'a, PLACES> {
     }
 
     // The set that stands alone; none where there are none or more.
+    #[tactic(auto, using(crate::proofs::Stacking::one_alone, crate::proofs::Stacking::others_none))]
     pub fn only(self) -> Option<u16>
         ensures { result ≡ alone self.entry }
     {

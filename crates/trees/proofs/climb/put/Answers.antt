@@ -1,12 +1,10 @@
-use Prim.Native.Nat.{ℕ, ◌<◌, ◌≤◌}
+use Prim.Native.Nat.{ℕ}
 use Rattle.std.proofs.Common.{rules}
 use native.Mathlib.Omega.{arith}
 use mathlib.Core.Path.{◌≡◌, sym, ap, ◌∙◌}
-use lib.ListN.{length, get_or}
-use Rattle.automaton.specs.Held.{most_arity}
+use lib.ListN.{get_or}
 use Rattle.automaton.specs.Answers.{held_by}
 use Rattle.trees.specs.Words.{arity_in, KnownIn}
-use Rattle.trees.specs.Piles.{Puts}
 use Rattle.trees.proofs.Values.{so-many-symbols, arity-read}
 use Rattle.trees.proofs.Firing.{small-arity}
 use Rattle.trees.proofs.Piling.{put-unknown, put-few}

@@ -1,7 +1,5 @@
 use mathlib.Core.Bool.{false≢true}
 use mathlib.Core.Path.{sym, ◌∙◌}
-use lib.Bits.{or_lt}
-use Rattle.sets.specs.Members.{state_width}
 use Rattle.sets.proofs.Bits.{has-zero}
 use Rattle.automaton.specs.Answers.{held_by}
 use Rattle.trees.proofs.Producing.{round-productive, round-all, grows}

@@ -8,7 +8,7 @@ use Rattle.automaton.specs.declared.Row.{Row}
 use Rattle.automaton.specs.Held.{Rule}
 use Rattle.automaton.specs.Answers.{held_by}
 use Rattle.trees.specs.Columns.{Tabled, entered}
-use Rattle.trees.proofs.Values.{row_at, rule_at, row-read, so-many-rows, all-rows, row_inside, symbol-at, target_at_lem, symbol-small, aimed-at, source-small, need-at}
+use Rattle.trees.proofs.Values.{row_at, rule_at, row-read, so-many-rows, row_inside, symbol-at, target_at_lem, symbol-small, aimed-at, source-small, need-at}
 use Rattle.trees.proofs.Tabling.{table_none, table-next}
 use Rattle.trees.proofs.columns.Columns.of.Goals as goal
 
@@ -48,8 +48,8 @@ loop-i-preserved c =
     let h = r.0 in
     let arity = c.from-in-loop-i.ensures ∙ ap (λ (row : Row). row.symbol) r.1 in
     table-next (held_by a).rules i _ c.loop-i.columns _ (row_at a i) (get_or a.arities (row_at a i).symbol 0) (row_inside a i h) v.few_rules (symbol-small a i h v)
-        (symbol-at a i h) (target_at_lem a i h) (need-at a i h v) c.enter.ensures.whole
-        (c.enter.ensures.made ∙ ap₂ (λ (row : Row) (f : ℕ). entered i row (get_or a.arities f 0) c.loop-i.columns) r.1 arity) c.loop-i.invariant
+    (symbol-at a i h) (target_at_lem a i h) (need-at a i h v) c.enter.ensures.whole
+    (c.enter.ensures.made ∙ ap₂ (λ (row : Row) (f : ℕ). entered i row (get_or a.arities f 0) c.loop-i.columns) r.1 arity) c.loop-i.invariant
 
 pub returns : goal.returns
 returns c =

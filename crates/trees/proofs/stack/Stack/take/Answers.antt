@@ -1,8 +1,7 @@
-use Prim.Native.Nat.{◌+◌, ◌<◌, ◌≤◌}
+use Prim.Native.Nat.{◌+◌, ◌<◌}
 use mathlib.Core.Path.{◌≡◌, sym, ap, ◌∙◌}
 use lib.ListN.{length, take, drop}
 use native.Mathlib.Omega.{arith}
-use Rattle.trees.specs.Stacks.{TakesOff}
 use Rattle.trees.proofs.Stacking.{length-down, drop-down, tops}
 use Rattle.trees.proofs.stack.Stack.take.Goals as goal
 
