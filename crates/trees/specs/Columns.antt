@@ -4,7 +4,7 @@ use Rattle.std.specs.Int.Bits.{bit_and, bit_or, bit_xor}
 use Rattle.sets.specs.Members.{has}
 use Rattle.ground.specs.Lists.{any_of, any_below}
 use Rattle.automaton.specs.declared.Row.{Row}
-use Rattle.automaton.specs.Held.{Rule, most_symbols, most_rows}
+use Rattle.automaton.specs.Held.{Rule, Held, Valid, most_symbols, most_rows}
 use Rattle.trees.specs.declared.columns.Columns.{Columns}
 
 -- ---- the numbers in them
@@ -32,6 +32,11 @@ pub record Tabled (rules : List Rule) (columns : Columns) : Type 0 where
   pub thirds : Column columns.thirds (need 2) rules
   pub targets : Column columns.targets (λ rule. 2 ^ rule.target) rules
   pub leaves : (f q : ℕ) → f < most_symbols → has (get_or columns.leaves f 0) q ≡ any_of (λ rule. eqb rule.symbol f && eqb rule.target q) rules
+
+-- a valid automaton, beside the columns of its rows
+pub record Ready (held : Held) (columns : Columns) : Type 0 where
+  pub valid : Valid held
+  pub tabled : Tabled held.rules columns
 
 -- one row more, as it stands in an automaton's value: its number in each column, at its place; and its target joined to the set of its symbol
 unfoldable pub entered : ℕ → Row → ℕ → Columns → Columns

@@ -1,16 +1,13 @@
 // A tree's words are read once, from the right end, with a pile of sets: each symbol takes the sets of its subtrees off the pile and puts its own on it.
 ghost use Rattle.std.specs.Prelude.{◌≡◌, ◌<◌, ◌≤◌, length};
-ghost use Rattle.automaton.specs.Held.{Valid};
-ghost use Rattle.automaton.specs.Answers.{held_by};
 ghost use Rattle.trees.specs.Words.{most_words};
 ghost use Rattle.trees.specs.Promises.{run_of};
-ghost use Rattle.trees.specs.Columns.{Tabled};
 ghost use Rattle.trees.specs.Piles.{pile_of, Puts, one_left, tree_answer, words_answer};
 
 use crate::Reached;
-use crate::columns::Columns;
+use crate::runner::Runner;
 use crate::stack::Stack;
-use automaton::{Automaton, Refused};
+use automaton::Refused;
 use sets::StateSet;
 
 // The places of the pile for a small tree.
@@ -20,42 +17,34 @@ const SMALL: usize = 64;
 const MOST_WORDS: usize = 4096;
 
 // One more word, on the left of those that were read: its set in place of its subtrees' on the pile. None where the symbol is unknown or finds too few subtrees.
-fn put<const PLACES: usize>(
-    a: &Automaton,
-    columns: &Columns,
-    word: u16,
-    pile: &mut Stack<PLACES>,
-) -> Option<()>
-    requires valid { Valid (held_by a.now) }
-    requires tabled { Tabled (held_by a.now).rules columns.now }
+fn put<const PLACES: usize>(runner: &Runner, word: u16, pile: &mut Stack<PLACES>) -> Option<()>
     requires room { length pile.old < PLACES }
     requires places_fit { PLACES ≤ most_words }
-    ensures { Puts (held_by a.now) word pile.old pile.new result }
+    ensures { Puts runner.now word pile.old pile.new result }
 {
+    let a = runner.automaton;
     if u16::from(a.symbols) <= word {
         return None;
     }
     let symbol = usize::from(word);
     let set = match usize::from(a.arities[symbol]) {
-        0 => columns.leaf(symbol),
-        arity => columns.scan(Some(word), pile.take(arity)?),
+        0 => runner.columns.leaf(symbol),
+        arity => runner.columns.scan(Some(word), pile.take(arity)?),
     };
     pile.push(set);
     Some(())
 }
 
 // The set that the tree reaches; none where the words are no tree.
-fn climb<const PLACES: usize>(a: &Automaton, columns: &Columns, words: &[u16]) -> Option<u16>
-    requires valid { Valid (held_by a.now) }
-    requires tabled { Tabled (held_by a.now).rules columns.now }
+fn climb<const PLACES: usize>(runner: &Runner, words: &[u16]) -> Option<u16>
     requires words_fit { length words.now ≤ PLACES }
     requires places_fit { PLACES ≤ most_words }
-    ensures { result ≡ one_left (pile_of (held_by a.now) words.now) }
+    ensures { result ≡ one_left (pile_of runner.now words.now) }
 {
     let mut places = [0; PLACES];
     let mut pile = Stack::new(&mut places);
     for &word in words.iter().rev() {
-        put(a, columns, word, &mut pile)?;
+        put(runner, word, &mut pile)?;
     }
     pile.only()
 }
@@ -72,17 +61,13 @@ fn reached(finals: StateSet, set: Option<u16>) -> Result<Reached, Refused>
 }
 
 // The answer for any words. For a small tree the pile is small: the less there is, the less is cleared.
-pub fn answer(a: &Automaton, words: &[u16]) -> Result<Reached, Refused>
-    requires { Valid (held_by a.now) }
-    ensures { run_of result ≡ words_answer (held_by a.now) words.now }
+pub fn answer(runner: &Runner, words: &[u16]) -> Result<Reached, Refused>
+    ensures { run_of result ≡ words_answer runner.now words.now }
 {
-    if MOST_WORDS < words.len() {
-        return Err(Refused::NoTree);
-    }
-    let columns = Columns::of(a);
-    if words.len() <= SMALL {
-        reached(a.finals, climb::<SMALL>(a, &columns, words))
-    } else {
-        reached(a.finals, climb::<MOST_WORDS>(a, &columns, words))
+    let finals = runner.automaton.finals;
+    match words.len() {
+        0..=SMALL => reached(finals, climb::<SMALL>(runner, words)),
+        ..=MOST_WORDS => reached(finals, climb::<MOST_WORDS>(runner, words)),
+        _ => Err(Refused::NoTree),
     }
 }

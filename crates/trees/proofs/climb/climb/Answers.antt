@@ -5,30 +5,29 @@ use Rattle.std.proofs.Common.{rules}
 use Rattle.std.proofs.lemmas.List.{length_push, length-reverse}
 use Rattle.std.proofs.lemmas.Iterator.Adapters.{YieldsList-from_rev_slice}
 use Rattle.std.proofs.lemmas.Iterator.Consumers.{YieldsList-turn, YieldsList-end}
-use Rattle.automaton.specs.Answers.{held_by}
 use Rattle.trees.proofs.Stacking.{left-none, left-broken, left-more, room-left, left-all}
 use Rattle.trees.proofs.climb.climb.Goals as goal
 
 pub loop-word-init : goal.loop-word-init
-loop-word-init g c = rw c.new-pile.ensures (left-none (held_by c.args.a.now) c.args.words.now)
+loop-word-init g c = rw c.new-pile.ensures (left-none c.args.runner.now c.args.words.now)
 
 pub put-requires : goal.put-requires
 put-requires g c =
     let turn = YieldsList-turn (YieldsList-from_rev_slice c.args.words.now cc) c.loop-word.yielded _ c.loop-word.yielded_by _ _ c.in-Some.field-0 c.in-Some.is c.next.ensures.steps in
-    let room = room-left (held_by c.args.a.now) c.args.words.now (length c.loop-word.yielded) c.in-Some.field-0.now c.loop-word.pile turn c.loop-word.invariant in
-    (search rules, (c.requires.valid, (c.requires.tabled, (omega (arith, room), c.requires.places_fit))))
+    let room = room-left c.args.runner.now c.args.words.now (length c.loop-word.yielded) c.in-Some.field-0.now c.loop-word.pile turn c.loop-word.invariant in
+    (search rules, (omega (arith, room), c.requires.places_fit))
 
 pub returns-in_err-put : goal.returns-in_err-put
 returns-in_err-put g c =
     let turn = YieldsList-turn (YieldsList-from_rev_slice c.args.words.now cc) c.loop-word.yielded _ c.loop-word.yielded_by _ _ c.in-Some.field-0 c.in-Some.is c.next.ensures.steps in
-    rw c.from_residual.ensures (left-broken (held_by c.args.a.now) c.args.words.now (length c.loop-word.yielded) c.in-Some.field-0.now c.loop-word.pile turn c.loop-word.invariant c.in_err-put.ensures)
+    rw c.from_residual.ensures (left-broken c.args.runner.now c.args.words.now (length c.loop-word.yielded) c.in-Some.field-0.now c.loop-word.pile turn c.loop-word.invariant c.in_err-put.ensures)
 
 pub loop-word-preserved : goal.loop-word-preserved
 loop-word-preserved g c =
     let turn = YieldsList-turn (YieldsList-from_rev_slice c.args.words.now cc) c.loop-word.yielded _ c.loop-word.yielded_by _ _ c.in-Some.field-0 c.in-Some.is c.next.ensures.steps in
-    rw (length_push c.loop-word.yielded c.in-Some.field-0) (left-more (held_by c.args.a.now) c.args.words.now (length c.loop-word.yielded) c.in-Some.field-0.now c.loop-word.pile turn c.loop-word.invariant _ c.in_ok-put.ensures)
+    rw (length_push c.loop-word.yielded c.in-Some.field-0) (left-more c.args.runner.now c.args.words.now (length c.loop-word.yielded) c.in-Some.field-0.now c.loop-word.pile turn c.loop-word.invariant _ c.in_ok-put.ensures)
 
 pub returns : goal.returns
 returns g c =
     let end = YieldsList-end (YieldsList-from_rev_slice c.args.words.now cc) c.loop-word.yielded _ c.loop-word.yielded_by _ _ c.in-None.is c.next.ensures.steps in
-    c.only.ensures ∙ left-all (held_by c.args.a.now) c.args.words.now (length c.loop-word.yielded) c.loop-word.pile (end.1 ∙ length-reverse c.args.words.now) c.loop-word.invariant
+    c.only.ensures ∙ left-all c.args.runner.now c.args.words.now (length c.loop-word.yielded) c.loop-word.pile (end.1 ∙ length-reverse c.args.words.now) c.loop-word.invariant

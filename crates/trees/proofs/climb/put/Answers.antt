@@ -1,7 +1,9 @@
 use Prim.Native.Nat.{ℕ}
 use Rattle.std.proofs.Common.{rules}
 use native.Mathlib.Omega.{arith}
-use mathlib.Core.Path.{◌≡◌, sym, ap, ◌∙◌}
+use mathlib.Core.Path.{◌≡◌, sym, ap, subst, ◌∙◌}
+use Rattle.automaton.specs.Held.{Held}
+use Rattle.trees.specs.Piles.{put, pile, broken}
 use lib.ListN.{get_or}
 use Rattle.automaton.specs.Answers.{held_by}
 use Rattle.trees.specs.Words.{arity_in, KnownIn}
@@ -13,39 +15,43 @@ use Rattle.trees.proofs.climb.put.Goals as goal
 use Rattle.trees.proofs.climb.put.Goals.{in-0, in_default+in_ok-take-in_default}
 
 pub returns-then-from-word : goal.returns-then-from-word
-returns-then-from-word g c = put-unknown (held_by c.args.a.now) c.args.word _ (omega (arith, so-many-symbols c.args.a.now))
+returns-then-from-word g c =
+    let a = c.runner.inside.automaton.now in
+    subst (λ (held : Held). put held c.args.word (pile c.args.pile.now) ≡ broken) c.runner.view_is
+    (put-unknown (held_by a) c.args.word (pile c.args.pile.now) (omega (arith, so-many-symbols a)))
 
 pub bounds-a-symbol : goal.bounds-a-symbol
-bounds-a-symbol g c = omega (arith, so-many-symbols c.args.a.now, c.requires.valid.few_symbols)
+bounds-a-symbol g c = omega (arith, so-many-symbols c.runner.inside.automaton.now, c.runner.invariant.valid.few_symbols)
 
 pub leaf-set-requires : goal.leaf-set-requires
-leaf-set-requires g c = omega (arith, so-many-symbols c.args.a.now, c.requires.valid.few_symbols)
+leaf-set-requires g c = omega (arith, so-many-symbols c.runner.inside.automaton.now, c.runner.invariant.valid.few_symbols)
 
 pub take-requires : goal.take-requires
 take-requires g c =
-    let a = c.args.a.now in
+    let a = c.runner.inside.automaton.now in
     let f = c.args.word in
     let arity : c.from-2.result ≡ arity_in (held_by a) f = arity-read a f c.from-symbol.result c.from-2.result (omega arith) c.from-symbol.ensures c.from-2.ensures in
-    (search rules, (omega arith, omega (arith, small-arity (held_by a) f c.requires.valid)))
+    (search rules, (omega arith, omega (arith, small-arity (held_by a) f c.runner.invariant.valid)))
 
 pub returns-in_err-take-in_default : goal.returns-in_err-take-in_default
 returns-in_err-take-in_default g c =
-    let a = c.args.a.now in
+    let a = c.runner.inside.automaton.now in
     let f = c.args.word in
     let arity : c.from-2.result ≡ arity_in (held_by a) f = arity-read a f c.from-symbol.result c.from-2.result (omega arith) c.from-symbol.ensures c.from-2.ensures in
-    rw c.from_residual.ensures (put-few (held_by a) f c.args.pile.now (omega (arith, c.in_err-take-in_default.ensures)))
+    let few : put (held_by a) f (pile c.args.pile.now) ≡ broken = put-few (held_by a) f c.args.pile.now (omega (arith, c.in_err-take-in_default.ensures)) in
+    rw c.from_residual.ensures (subst (λ (held : Held). put held f (pile c.args.pile.now) ≡ broken) c.runner.view_is few)
 
 pub returns : goal.returns
 returns g c =
-    let a = c.args.a.now in
+    let a = c.runner.inside.automaton.now in
     let f = c.args.word in
     let known : KnownIn (held_by a) f = omega (arith, so-many-symbols a) in
     let arity : c.from-2.result ≡ arity_in (held_by a) f = arity-read a f c.from-symbol.result c.from-2.result (omega arith) c.from-symbol.ensures c.from-2.ensures in
-    elim c.match-from.branch [
+    subst (λ (held : Held). put held f (pile c.args.pile.now) ≡ pile c.push.new.self) c.runner.view_is (elim c.match-from.branch [
       | in-0 w ↦ rw (c.push.ensures, w.set-is, w.pile-is)
-          (put-leaf (held_by a) c.requires.valid c.args.columns.now c.requires.tabled f known c.args.pile.now w.leaf-set.result (sym arity ∙ w.in-0.is)
-          (w.leaf-set.ensures ∙ ap (λ (s : ℕ). get_or c.args.columns.now.leaves s 0) c.from-symbol.ensures))
+          (put-leaf (held_by a) c.runner.invariant.valid c.runner.inside.columns c.runner.invariant.tabled f known c.args.pile.now w.leaf-set.result (sym arity ∙ w.in-0.is)
+          (w.leaf-set.ensures ∙ ap (λ (s : ℕ). get_or c.runner.inside.columns.leaves s 0) c.from-symbol.ensures))
       | in_default+in_ok-take-in_default w ↦ rw (c.push.ensures, w.set-is, w.pile-is)
-          (put-over (held_by a) c.requires.valid c.args.columns.now c.requires.tabled f known c.args.pile.now w.scan-set.result w.in_ok-take-in_default.field-0 w.take.new.self (omega arith)
+          (put-over (held_by a) c.runner.invariant.valid c.runner.inside.columns c.runner.invariant.tabled f known c.args.pile.now w.scan-set.result w.in_ok-take-in_default.field-0 w.take.new.self (omega arith)
           (rw arity at w.in_ok-take-in_default.ensures) w.scan-set.ensures)
-    ]
+    ])
