@@ -7,12 +7,12 @@ use mathlib.Core.Path.{◌≡◌, refl, sym, ◌∙◌, ap}
 use mathlib.Core.List.{List, []}
 use lib.Dec.{ltb}
 use lib.ListN.{length, get_or, take, replicate, length-map, length-take, get_or-map, get_or-eq_default}
-use lib.Seq.{take_all, get_or-take}
+use lib.Seq.{get_or-take}
 use borrow.Author.Tests.{ltb-true}
 use Rattle.sets.specs.Members.{state_width}
 use Rattle.automaton.specs.declared.Row.{Row}
 use Rattle.automaton.specs.declared.Automaton.{Automaton}
-use Rattle.automaton.specs.Held.{Rule, ValidRule, Valid, most_symbols, most_arity, most_rows}
+use Rattle.automaton.specs.Held.{Rule, ValidRule, Valid, most_symbols, most_arity}
 use Rattle.ground.specs.Lists.{firsts}
 use Rattle.automaton.specs.Answers.{unused_row, rule_held, held_by}
 use Rattle.trees.specs.Columns.{need, need_at}
@@ -40,9 +40,6 @@ module _ (a : Automaton) where
   unfolding held_by
   so-many-rows = length-map (firsts a.count unused_row a.rows) (rule_held (firsts a.symbols 0 a.arities)) ∙ length-firsts a.count unused_row a.rows
 
-  pub all-rows : take a.count (held_by a).rules ≡ (held_by a).rules
-  all-rows = take_all a.count (held_by a).rules (omega (arith, so-many-rows))
-
   pub arity-at : (f : ℕ) → f < a.symbols → get_or (held_by a).arities f 0 ≡ get_or a.arities f 0
   unfolding held_by
   arity-at f h = get_or-firsts a.symbols 0 a.arities f 0 h
@@ -54,9 +51,6 @@ module _ (a : Automaton) where
   module _ (i : ℕ) (h : i < a.count) where
     pub row_inside : i < length (held_by a).rules
     row_inside = omega (arith, so-many-rows)
-
-    pub row_small : Valid (held_by a) → i < most_rows
-    row_small v = omega (arith, so-many-rows, v.few_rules)
 
     rule-at : rule_at a i ≡ rule_held (held_by a).arities (get_or a.rows i unused_row)
     unfolding rule_at held_by

@@ -9,6 +9,7 @@ use automaton::{Automaton, ROW_PLACES, Row, SOURCE_PLACES, SYMBOL_PLACES};
 use std::array;
 
 // Row i has place i of each column. Past the rows a column is 0: a place without a row needs nothing and aims at no state.
+// An array of rows in place of the columns was tried: a long tree then takes five times as long.
 #[derive(Drop)]
 pub struct Columns {
     symbols: [u16; ROW_PLACES],

@@ -20,23 +20,21 @@ loop-i-init c = table_none
 
 pub bounds-a-from : goal.bounds-a-from
 bounds-a-from c =
-    let r = row-read c.args.a.now c.from.result c.loop-i.i c.from.ensures c.loop-i-test.true in
-    rw (c.from-in-loop-i.ensures, r.1) (symbol-small c.args.a.now c.loop-i.i r.0 c.requires)
+    let a = c.args.a.now in
+    let r = row-read a c.from.result c.loop-i.i c.from.ensures c.loop-i-test.true in
+    rw (c.from-in-loop-i.ensures, r.1) (symbol-small a c.loop-i.i r.0 c.requires)
 
-pub enter-requires-clause-symbol_lt_most_symbols : goal.enter-requires-clause-symbol_lt_most_symbols
-enter-requires-clause-symbol_lt_most_symbols c =
-    let r = row-read c.args.a.now c.from.result c.loop-i.i c.from.ensures c.loop-i-test.true in
-    rw r.1 (symbol-small c.args.a.now c.loop-i.i r.0 c.requires)
-
-pub enter-requires-clause-target_lt_state_width : goal.enter-requires-clause-target_lt_state_width
-enter-requires-clause-target_lt_state_width c =
-    let r = row-read c.args.a.now c.from.result c.loop-i.i c.from.ensures c.loop-i-test.true in
-    rw r.1 (aimed-at c.args.a.now c.loop-i.i r.0 c.requires)
-
-pub enter-requires-clause-by_index : goal.enter-requires-clause-by_index
-enter-requires-clause-by_index c =
-    let r = row-read c.args.a.now c.from.result c.loop-i.i c.from.ensures c.loop-i-test.true in
-    rw (c.from-in-loop-i.ensures, r.1) (source-small c.args.a.now c.loop-i.i r.0 c.requires)
+pub enter-requires : goal.enter-requires
+enter-requires c =
+    let a = c.args.a.now in
+    let i = c.loop-i.i in
+    let r = row-read a c.from.result i c.from.ensures c.loop-i-test.true in
+    record {
+      i_lt_most_rows = omega (arith, r.0, so-many-rows a, c.requires.few_rules);
+      symbol_lt_most_symbols = rw r.1 (symbol-small a i r.0 c.requires);
+      target_lt_state_width = rw r.1 (aimed-at a i r.0 c.requires);
+      by_index = rw (c.from-in-loop-i.ensures, r.1) (source-small a i r.0 c.requires);
+    }
 
 pub loop-i-preserved : goal.loop-i-preserved
 unfolding rule_at
