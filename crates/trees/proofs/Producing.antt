@@ -19,7 +19,7 @@ use Rattle.trees.specs.Words.{count, OfKnown, AllOfKnown, KnownIn, arity_in}
 use Rattle.trees.specs.Runs.{Reaches, ReachesEach, Productive}
 use Rattle.trees.specs.Piles.{each_in}
 use Rattle.trees.specs.declared.columns.Columns.{Columns}
-use Rattle.trees.specs.Columns.{Tabled, Scanned}
+use Rattle.trees.specs.Columns.{Ready, Scanned}
 use Rattle.ground.proofs.Truth.{and_parts, and_both, or_right}
 use Rattle.ground.proofs.Lists.{any-pick, any-mem, all_map}
 use Rattle.trees.proofs.Firing.{met, met-each, scanned, small-arity, valid-member}
@@ -86,17 +86,17 @@ met_all rule have few =
         (and_both (has have y) (has have z && true) a.1.0 (and_both (has have z) true a.1.1.0 refl))
     back (x ∷ (y ∷ (z ∷ (w ∷ ws)))) l a = absurd (omega arith)
 
-module _ (held : Held) (v : Valid held) (columns : Columns) (tabled : Tabled held.rules columns) (have found : ℕ) (scan : Scanned columns None (three have) found) where
+module _ (held : Held) (columns : Columns) (ready : Ready held columns) (have found : ℕ) (scan : Scanned columns None (three have) found) where
   row : ℕ → Rule → Bool
   row q rule = true && (eqb rule.target q && met rule (three have))
 
   few-sources : (rule : Rule) → Memᴰ rule held.rules → length rule.sources ≤ most_arity
-  few-sources rule m = omega (arith, (valid-member held v rule m).suited, small-arity held rule.symbol v)
+  few-sources rule m = omega (arith, (valid-member held ready.valid rule m).suited, small-arity held rule.symbol ready.valid)
 
   found-has : (q : ℕ) → has found q ≡ any_of (row q) held.rules
   unfolding row
   found-has q =
-      scanned held.rules v.few_rules columns tabled None (λ rule. true) (record { symbol = 0; target = 0; sources = [] }) (λ i h. refl) (three have) found scan q
+      scanned held.rules ready.valid.few_rules columns ready.tabled None (λ rule. true) (record { symbol = 0; target = 0; sources = [] }) (λ i h. refl) (three have) found scan q
 
   -- what a round adds is productive
   pub round-productive : ((q : ℕ) → has have q ≡ true → Productive held.rules q) → (q : ℕ) → has (bit_or have found) q ≡ true → Productive held.rules q

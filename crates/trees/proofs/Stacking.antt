@@ -17,12 +17,12 @@ use lib.Seq.{drop-cons, get_or-set_same, get_or-set_other}
 use borrow.Author.Tests.{eqb-true, eq-eqb, le-leb}
 use Rattle.sets.specs.Members.{has, state_width}
 use Rattle.sets.proofs.Bits.{has-and, has-zero, same-members}
-use Rattle.automaton.specs.Held.{Held, Valid, most_arity}
+use Rattle.automaton.specs.Held.{Held, most_arity}
 use Rattle.trees.specs.Words.{KnownIn, arity_in, most_words}
 use Rattle.trees.specs.Stacks.{down, alone, TakenOff}
 use Rattle.trees.specs.Piles.{meets, reached_from, Pile, broken, pile, put, pile_of, pile_answer, one_left, tree_answer, words_answer}
 use Rattle.trees.specs.declared.columns.Columns.{Columns}
-use Rattle.trees.specs.Columns.{Tabled, Scanned}
+use Rattle.trees.specs.Columns.{Ready, Scanned}
 use Rattle.ground.proofs.Lists.{below-pick, below-some}
 use Rattle.trees.proofs.Piling.{put-done, few-sets, stay-broken}
 use Rattle.trees.proofs.Firing.{scan-reached, leaf-reached}
@@ -101,7 +101,7 @@ tops places (suc (suc (suc (suc n)))) base depth e some few = absurd (omega arit
 
 -- ---- one word
 
-module _ (held : Held) (v : Valid held) (columns : Columns) (tabled : Tabled held.rules columns) (f : ℕ) (known : KnownIn held f) (sets : List ℕ) where
+module _ (held : Held) (columns : Columns) (ready : Ready held columns) (f : ℕ) (known : KnownIn held f) (sets : List ℕ) where
   put-read : (x : ℕ) (rest : List ℕ) → arity_in held f ≤ length sets → x ≡ reached_from held.rules f (take (arity_in held f) sets) → rest ≡ drop (arity_in held f) sets
       → put held f (pile sets) ≡ pile (x ∷ rest)
   put-read x rest enough over off = rw (over, off) (put-done held f sets known enough)
@@ -110,14 +110,14 @@ module _ (held : Held) (v : Valid held) (columns : Columns) (tabled : Tabled hel
   pub put-leaf : (x : ℕ) → arity_in held f ≡ 0 → x ≡ get_or columns.leaves f 0 → put held f (pile sets) ≡ pile (x ∷ sets)
   put-leaf x leaf is =
       put-read x sets (omega (arith, leaf))
-      (is ∙ leaf-reached held v columns f tabled (omega (arith, v.few_symbols)) leaf ∙ ap (λ (n : ℕ). reached_from held.rules f (take n sets)) (sym leaf))
+      (is ∙ leaf-reached held ready.valid columns f ready.tabled (omega (arith, ready.valid.few_symbols)) leaf ∙ ap (λ (n : ℕ). reached_from held.rules f (take n sets)) (sym leaf))
       (ap (λ (n : ℕ). drop n sets) (sym leaf))
 
   -- a set over those of the subtrees
   pub put-over : (x : ℕ) (given rest : List ℕ) → most_arity ≤ length given → TakenOff (arity_in held f) sets rest given → Scanned columns (Some f) given x
       → put held f (pile sets) ≡ pile (x ∷ rest)
   put-over x given rest long off scan =
-      put-read x rest off.enough (scan-reached held v columns tabled f given x long scan ∙ ap (reached_from held.rules f) off.taken) off.left
+      put-read x rest off.enough (scan-reached held ready.valid columns ready.tabled f given x long scan ∙ ap (reached_from held.rules f) off.taken) off.left
 
 -- ---- the words
 

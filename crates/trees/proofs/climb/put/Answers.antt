@@ -53,9 +53,9 @@ returns g c =
     let arity = arity_of g (goal.at.returns g c).After-from-2 in
     subst (λ (held : Held). put held f (pile c.args.pile.now) ≡ pile c.push.new.self) c.runner.view_is (elim c.match-from.branch [
       | in-0 w ↦ rw (c.push.ensures, w.set-is, w.pile-is)
-          (put-leaf (held_by a) c.runner.invariant.valid c.runner.inside.columns c.runner.invariant.tabled f known c.args.pile.now w.leaf-set.result (sym arity ∙ w.in-0.is)
+          (put-leaf (held_by a) c.runner.inside.columns c.runner.invariant f known c.args.pile.now w.leaf-set.result (sym arity ∙ w.in-0.is)
           (w.leaf-set.ensures ∙ ap (λ (s : ℕ). get_or c.runner.inside.columns.leaves s 0) c.from-symbol.ensures))
       | in_default+in_ok-take-in_default w ↦ rw (c.push.ensures, w.set-is, w.pile-is)
-          (put-over (held_by a) c.runner.invariant.valid c.runner.inside.columns c.runner.invariant.tabled f known c.args.pile.now w.scan-set.result w.in_ok-take-in_default.field-0 w.take.new.self (omega arith)
+          (put-over (held_by a) c.runner.inside.columns c.runner.invariant f known c.args.pile.now w.scan-set.result w.in_ok-take-in_default.field-0 w.take.new.self (omega arith)
           (rw arity at w.in_ok-take-in_default.ensures) w.scan-set.ensures)
     ])

@@ -1,7 +1,7 @@
 use mathlib.Core.Bool.{false≢true}
 use mathlib.Core.Path.{sym, subst, ◌∙◌}
-use Rattle.automaton.specs.Held.{Held, Valid}
-use Rattle.trees.specs.Columns.{Tabled}
+use Rattle.automaton.specs.Held.{Held}
+use Rattle.trees.specs.Columns.{Ready}
 use Rattle.sets.proofs.Bits.{has-zero}
 use Rattle.trees.proofs.Producing.{round-productive, round-all, grows}
 use native.Mathlib.Omega.{arith}
@@ -12,11 +12,11 @@ loop-have-init c = λ q e. absurd (false≢true (sym (has-zero q) ∙ e))
 
 pub returns-then-next-have : goal.returns-then-next-have
 returns-then-next-have c =
-    round-all c.args.runner.now (subst Valid c.runner.view_is c.runner.invariant.valid) c.runner.inside.columns (subst (λ (held : Held). Tabled held.rules c.runner.inside.columns) c.runner.view_is c.runner.invariant.tabled) c.loop-have.have c.scan-more.result c.scan-more.ensures c.loop-have.invariant c.if-next-have.true
+    round-all c.args.runner.now c.runner.inside.columns (subst (λ (held : Held). Ready held c.runner.inside.columns) c.runner.view_is c.runner.invariant) c.loop-have.have c.scan-more.result c.scan-more.ensures c.loop-have.invariant c.if-next-have.true
 
 pub loop-have-smaller : goal.loop-have-smaller
 loop-have-smaller c = omega (arith, grows c.loop-have.have c.scan-more.result c.if-next-have.false)
 
 pub loop-have-preserved : goal.loop-have-preserved
 loop-have-preserved c =
-    round-productive c.args.runner.now (subst Valid c.runner.view_is c.runner.invariant.valid) c.runner.inside.columns (subst (λ (held : Held). Tabled held.rules c.runner.inside.columns) c.runner.view_is c.runner.invariant.tabled) c.loop-have.have c.scan-more.result c.scan-more.ensures c.loop-have.invariant
+    round-productive c.args.runner.now c.runner.inside.columns (subst (λ (held : Held). Ready held c.runner.inside.columns) c.runner.view_is c.runner.invariant) c.loop-have.have c.scan-more.result c.scan-more.ensures c.loop-have.invariant
