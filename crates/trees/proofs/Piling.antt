@@ -5,7 +5,7 @@ use mathlib.Core.Bool.{Bool, true, false, cond, ◌&&◌}
 use mathlib.Core.Path.{◌≡◌, refl, sym, ◌∙◌, ap}
 use mathlib.Core.List.{List, [], ◌∷◌, ◌++◌, append_assoc, append-nil}
 use lib.Dec.{leb, ltb}
-use lib.ListN.{length, take, drop}
+use lib.ListN.{length, take, drop, length-drop}
 use lib.Seq.{take_at, drop_at}
 use borrow.Author.Tests.{lt-ltb, le-ltb, le-leb, lt-leb, ltb-true, leb-true}
 use Rattle.automaton.specs.Held.{Rule, Held}
@@ -40,6 +40,22 @@ module _ (held : Held) where
           → cond (b && leb (arity_in held f) (length sets)) (pile (reached_from held.rules f (take (arity_in held f) sets) ∷ drop (arity_in held f) sets)) broken ≡ broken
       go true = rw (lt-leb (arity_in held f) (length sets) h)
       go false = refl
+
+  -- each word puts at most one set on
+  pub few-sets : (ws sets : List ℕ) → pile_of held ws ≡ pile sets → length sets ≤ length ws
+  unfolding pile_of put
+  few-sets [] sets e = let none : [] ≡ sets = cc in omega (arith, ap length none)
+  few-sets (f ∷ ws) sets e = go (pile_of held ws) (few-sets ws) e
+    where
+      go : (p : Pile) → ((before : List ℕ) → p ≡ pile before → length before ≤ length ws) → put held f p ≡ pile sets → length sets ≤ suc (length ws)
+      go broken few h = absurd (cc)
+      go (pile before) few h = one_more (ltb f (length held.arities) && leb (arity_in held f) (length before)) h
+        where
+          one_more : (b : Bool) → cond b (pile (reached_from held.rules f (take (arity_in held f) before) ∷ drop (arity_in held f) before)) broken ≡ pile sets → length sets ≤ suc (length ws)
+          one_more true h =
+              let same : (reached_from held.rules f (take (arity_in held f) before) ∷ drop (arity_in held f) before) ≡ sets = cc in
+              omega (arith, ap length same, length-drop (arity_in held f) before, few before refl)
+          one_more false h = absurd (cc)
 
   -- words that cannot be completed stay so
   pub stay-broken : (us ws : List ℕ) → pile_of held ws ≡ broken → pile_of held (us ++ ws) ≡ broken

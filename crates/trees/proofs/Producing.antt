@@ -5,6 +5,7 @@ use mathlib.Core.Bool.{Bool, true, false, ◌&&◌, ◌||◌}
 use mathlib.Core.Logic.{◌↔◌}
 use mathlib.Core.Path.{◌≡◌, refl, sym, ◌∙◌, ap, subst}
 use mathlib.Core.List.{List, [], ◌∷◌, Memᴰ}
+use Rattle.std.specs.Prelude.{None}
 use lib.Bits.{bit_or, or_add_and, and_le_r}
 use lib.Dec.{eqb}
 use lib.ListN.{length, take}
@@ -17,7 +18,8 @@ use Rattle.meaning.specs.Trees.{Tree, Forest, hole, node, []ᶠ, ◌∷ᶠ◌}
 use Rattle.trees.specs.Words.{count, OfKnown, AllOfKnown, KnownIn, arity_in}
 use Rattle.trees.specs.Runs.{Reaches, ReachesEach, Productive}
 use Rattle.trees.specs.Piles.{each_in}
-use Rattle.trees.specs.Columns.{Tabled, Scanned}
+use Rattle.trees.specs.declared.columns.Columns.{Columns}
+use Rattle.trees.specs.Columns.{Ready, Scanned}
 use Rattle.ground.proofs.Truth.{and_parts, and_both, or_right}
 use Rattle.ground.proofs.Lists.{any-pick, any-mem, all_map}
 use Rattle.trees.proofs.Firing.{met, met-each, scanned, small-arity, valid-member}
@@ -53,15 +55,17 @@ module _ (rules : List Rule) where
 
 -- ---- one round over the rows
 
--- each source is in the one set
-pub met_all : (rule : Rule) (have : ℕ) → length rule.sources ≤ most_arity → (met rule have have have ≡ true) ↔ All (λ q. has have q ≡ true) rule.sources
-unfolding each_in
-met_all rule have few = (λ e. there rule.sources few (sym (met-each rule have have have few) ∙ e), λ a. met-each rule have have have few ∙ back rule.sources few a)
-  where
-    three : List ℕ
-    three = have ∷ (have ∷ (have ∷ []))
+-- the one set, at each child place
+abbrev pub three : ℕ → List ℕ
+three have = have ∷ (have ∷ (have ∷ []))
 
-    there : (qs : List ℕ) → length qs ≤ most_arity → each_in qs (take (length qs) three) ≡ true → All (λ q. has have q ≡ true) qs
+-- each source is in the one set
+pub met_all : (rule : Rule) (have : ℕ) → length rule.sources ≤ most_arity → (met rule (three have) ≡ true) ↔ All (λ q. has have q ≡ true) rule.sources
+unfolding each_in
+met_all rule have few =
+    (λ e. there rule.sources few (sym (met-each rule (three have) few (omega arith)) ∙ e), λ a. met-each rule (three have) few (omega arith) ∙ back rule.sources few a)
+  where
+    there : (qs : List ℕ) → length qs ≤ most_arity → each_in qs (take (length qs) (three have)) ≡ true → All (λ q. has have q ≡ true) qs
     there [] l e = tt
     there (x ∷ []) l e = ((and_parts (has have x) true e).0, tt)
     there (x ∷ (y ∷ [])) l e =
@@ -73,7 +77,7 @@ met_all rule have few = (λ e. there rule.sources few (sym (met-each rule have h
         (r.0, (s.0, ((and_parts (has have z) true s.1).0, tt)))
     there (x ∷ (y ∷ (z ∷ (w ∷ ws)))) l e = absurd (omega arith)
 
-    back : (qs : List ℕ) → length qs ≤ most_arity → All (λ q. has have q ≡ true) qs → each_in qs (take (length qs) three) ≡ true
+    back : (qs : List ℕ) → length qs ≤ most_arity → All (λ q. has have q ≡ true) qs → each_in qs (take (length qs) (three have)) ≡ true
     back [] l a = refl
     back (x ∷ []) l a = and_both (has have x) true a.0 refl
     back (x ∷ (y ∷ [])) l a = and_both (has have x) (has have y && true) a.0 (and_both (has have y) true a.1.0 refl)
@@ -82,18 +86,17 @@ met_all rule have few = (λ e. there rule.sources few (sym (met-each rule have h
         (and_both (has have y) (has have z && true) a.1.0 (and_both (has have z) true a.1.1.0 refl))
     back (x ∷ (y ∷ (z ∷ (w ∷ ws)))) l a = absurd (omega arith)
 
-module _ (held : Held) (v : Valid held) (table : List ℕ) (tabled : Tabled held.rules table) (have found : ℕ)
-    (scan : Scanned false table 0 have have have found) where
+module _ (held : Held) (columns : Columns) (ready : Ready held columns) (have found : ℕ) (scan : Scanned columns None (three have) found) where
   row : ℕ → Rule → Bool
-  row q rule = true && (eqb rule.target q && met rule have have have)
+  row q rule = true && (eqb rule.target q && met rule (three have))
 
   few-sources : (rule : Rule) → Memᴰ rule held.rules → length rule.sources ≤ most_arity
-  few-sources rule m = omega (arith, (valid-member held v rule m).suited, small-arity held rule.symbol v)
+  few-sources rule m = omega (arith, (valid-member held ready.valid rule m).suited, small-arity held rule.symbol ready.valid)
 
   found-has : (q : ℕ) → has found q ≡ any_of (row q) held.rules
   unfolding row
   found-has q =
-      scanned held.rules v.few_rules table tabled false 0 (λ rule. true) (record { symbol = 0; target = 0; sources = [] }) (λ i h. refl) have have have found scan q
+      scanned held.rules ready.valid.few_rules columns ready.tabled None (λ rule. true) (record { symbol = 0; target = 0; sources = [] }) (λ i h. refl) (three have) found scan q
 
   -- what a round adds is productive
   pub round-productive : ((q : ℕ) → has have q ≡ true → Productive held.rules q) → (q : ℕ) → has (bit_or have found) q ≡ true → Productive held.rules q
@@ -106,7 +109,7 @@ module _ (held : Held) (v : Valid held) (table : List ℕ) (tabled : Tabled held
           let new : has found q ≡ true = sym (ap (λ (b : Bool). b || has found q) d) ∙ sym (has-or have found q) ∙ e in
           let p = any-pick (row q) held.rules (sym (found-has q) ∙ new) in
           let rule = p.0 in
-          let r = and_parts (eqb rule.target q) (met rule have have have) p.2 in
+          let r = and_parts (eqb rule.target q) (met rule (three have)) p.2 in
           let sources = (met_all rule have (few-sources rule p.1)).0 r.1 in
           subst (Productive held.rules) (eqb-true rule.target q r.0)
           (productive-closed held.rules rule p.1 (all_map rule.sources before sources))
@@ -116,7 +119,7 @@ module _ (held : Held) (v : Valid held) (table : List ℕ) (tabled : Tabled held
   unfolding row
   round-closed same rule m a =
       let q = rule.target in
-      let fires : row q rule ≡ true = and_both (eqb q q) (met rule have have have) (eq-eqb q q refl) ((met_all rule have (few-sources rule m)).1 a) in
+      let fires : row q rule ≡ true = and_both (eqb q q) (met rule (three have)) (eq-eqb q q refl) ((met_all rule have (few-sources rule m)).1 a) in
       let new : has found q ≡ true = found-has q ∙ any-mem (row q) rule held.rules m fires in
       ap (λ (n : ℕ). has n q) (sym same) ∙ has-or have found q ∙ or_right (has have q) (has found q) new
 

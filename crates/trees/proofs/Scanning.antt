@@ -3,17 +3,19 @@ use Prim.Native.Nat.{ℕ, suc, ◌+◌, ◌^◌, ◌<◌}
 use native.Mathlib.Omega.{arith}
 use native.Mathlib.Nat.{lt_of_le_of_lt}
 use native.Mathlib.Numerals.{add-one}
-use mathlib.Core.Bool.{Bool, true, false, cond, ◌&&◌, ◌||◌}
+use mathlib.Core.Bool.{Bool, true, false, cond, ◌&&◌, ◌||◌, or-false}
 use mathlib.Core.Path.{◌≡◌, refl, sym, ◌∙◌, ap, ap₂}
 use mathlib.Core.List.{List}
+use Rattle.std.specs.Prelude.{Option, None, Some}
 use lib.ListN.{get_or}
 use lib.Bits.{bit_and, bit_or, bit_xor, and_le_l, and_le_r, or_add_and, xor_add_and, and_zero_l}
 use lib.Dec.{eqb}
 use lib.Pow.{pow-lt}
-use borrow.Author.Tests.{eqb-true, eq-eqb}
+use borrow.Author.Tests.{eqb-true, eq-eqb, ne_eqb}
 use Rattle.sets.specs.Members.{has}
 use Rattle.sets.proofs.Bits.{has-or, has-and, has-pow, has-zero, same-members}
-use Rattle.trees.specs.Columns.{first_at, second_at, third_at, target_at, within, fires}
+use Rattle.trees.specs.declared.columns.Columns.{Columns}
+use Rattle.trees.specs.Columns.{within, asked, differs, fires}
 use Rattle.ground.specs.Lists.{any_below}
 use Rattle.ground.proofs.Truth.{and_parts, and_both, same_test}
 
@@ -42,10 +44,10 @@ xor-none u v = same_test (eqb (bit_xor u v) 0) (eqb u v) there back
     back : eqb u v ≡ true → eqb (bit_xor u v) 0 ≡ true
     back e = let same : u ≡ v = eqb-true u v e in eq-eqb (bit_xor u v) 0 (rw same (lib.Bits.xor_self v))
 
--- another symbol is missed, where symbols count
-other_none : (symbols : Bool) (s f : ℕ) → eqb (cond symbols (bit_xor s f) 0) 0 ≡ cond symbols (eqb s f) true
-other_none true s f = xor-none s f
-other_none false s f = refl
+-- another symbol is missed, where one is asked for
+other_none : (s : ℕ) (symbol : Option ℕ) → eqb (differs s symbol) 0 ≡ asked symbol s
+other_none s (Some f) = xor-none s f
+other_none s None = refl
 
 -- what a row misses: its symbol is another, or a part of what it needs is not there
 abbrev pub missed_of : (o x a y b z c : ℕ) → ℕ
@@ -61,9 +63,9 @@ missed o x a y b z c =
     (or-none (bit_xor y (bit_and y b)) (bit_xor z (bit_and z c)) ∙ ap₂ ◌&&◌ (xor-none y (bit_and y b)) (xor-none z (bit_and z c))))
 
 -- one more row: its target joins where it fires
-has_more : (found target q : ℕ) (b : Bool) → has (bit_or found (cond b target 0)) q ≡ (has found q || (b && has target q))
+has_more : (found target q : ℕ) (b : Bool) → has (cond b (bit_or found target) found) q ≡ (has found q || (b && has target q))
 has_more found target q true = has-or found target q
-has_more found target q false = has-or found 0 q ∙ ap (λ (b : Bool). has found q || b) (has-zero q)
+has_more found target q false = sym (or-false (has found q))
 
 -- ---- what is needed
 
@@ -98,26 +100,36 @@ within-one q a = same_test (within (2 ^ q) a) (has a q) there back
 
 -- ---- the scan, row by row
 
-module _ (symbols : Bool) (table : List ℕ) (f a b c : ℕ) where
+module _ (columns : Columns) (symbol : Option ℕ) (sets : List ℕ) where
   -- the targets of the first rows that fire
   abbrev pub Sofar : ℕ → ℕ → Type 0
-  Sofar i found = (q : ℕ) → has found q ≡ any_below i (λ j. fires symbols table f a b c j && has (get_or table (target_at j) 0) q)
+  Sofar i found = (q : ℕ) → has found q ≡ any_below i (λ j. fires columns symbol sets j && has (get_or columns.targets j 0) q)
 
   pub scan-none : Sofar 0 0
   unfolding any_below
   scan-none q = has-zero q
 
-  -- one more row: its numbers, as read, and what is kept of its target
-  pub scan-more : (i found s o x y z t kept : ℕ) → s ≡ get_or table i 0 → o ≡ cond symbols (bit_xor s f) 0 → x ≡ get_or table (first_at i) 0 → y ≡ get_or table (second_at i) 0
-      → z ≡ get_or table (third_at i) 0 → t ≡ get_or table (target_at i) 0 → kept ≡ cond (eqb (missed_of o x a y b z c) 0) t 0 → Sofar i found → Sofar (i + 1) (bit_or found kept)
-  unfolding any_below fires
-  scan-more i found s o x y z t kept es eo ex ey ez et e before q =
-      ap (λ (n : ℕ). has (bit_or found n) q) e ∙ has_more found t q (eqb (missed_of o x a y b z c) 0)
-      ∙ ap₂ ◌||◌ (before q) (ap₂ ◌&&◌ (missed o x a y b z c ∙ fired) (ap (λ (n : ℕ). has n q) et))
-      ∙ ap (λ (n : ℕ). any_below n (λ j. fires symbols table f a b c j && has (get_or table (target_at j) 0) q)) (sym (add-one i))
-    where
-      own : eqb o 0 ≡ cond symbols (eqb (get_or table i 0) f) true
-      own = ap (λ (n : ℕ). eqb n 0) eo ∙ other_none symbols s f ∙ ap (λ (n : ℕ). cond symbols (eqb n f) true) es
+  -- what row i misses, where this tells its symbol from the one that is asked for
+  abbrev missed_at : (i o : ℕ) → ℕ
+  missed_at i o = missed_of o (get_or columns.firsts i 0) (get_or sets 0 0) (get_or columns.seconds i 0) (get_or sets 1 0) (get_or columns.thirds i 0) (get_or sets 2 0)
 
-      fired : (eqb o 0 && (within x a && (within y b && within z c))) ≡ fires symbols table f a b c i
-      fired = ap₂ ◌&&◌ own (ap₂ ◌&&◌ (ap (λ (n : ℕ). within n a) ex) (ap₂ ◌&&◌ (ap (λ (n : ℕ). within n b) ey) (ap (λ (n : ℕ). within n c) ez)))
+  -- one more row
+  scan-more : (i found next o : ℕ) → o ≡ differs (get_or columns.symbols i 0) symbol → next ≡ cond (eqb (missed_at i o) 0) (bit_or found (get_or columns.targets i 0)) found → Sofar i found → Sofar (i + 1) next
+  unfolding any_below fires
+  scan-more i found next o eo e before q =
+      let x = get_or columns.firsts i 0 in
+      let y = get_or columns.seconds i 0 in
+      let z = get_or columns.thirds i 0 in
+      let t = get_or columns.targets i 0 in
+      let a = get_or sets 0 0 in
+      let b = get_or sets 1 0 in
+      let c = get_or sets 2 0 in
+      ap (λ (n : ℕ). has n q) e ∙ has_more found t q (eqb (missed_of o x a y b z c) 0)
+      ∙ ap₂ ◌||◌ (before q) (ap (λ (m : Bool). m && has t q) (missed o x a y b z c ∙ ap (λ (m : Bool). m && (within x a && (within y b && within z c))) (ap (λ (n : ℕ). eqb n 0) eo ∙ other_none (get_or columns.symbols i 0) symbol)))
+      ∙ ap (λ (n : ℕ). any_below n (λ j. fires columns symbol sets j && has (get_or columns.targets j 0) q)) (sym (add-one i))
+
+  pub scan-fired : (i found o : ℕ) → o ≡ differs (get_or columns.symbols i 0) symbol → missed_at i o ≡ 0 → Sofar i found → Sofar (i + 1) (bit_or found (get_or columns.targets i 0))
+  scan-fired i found o eo none before = scan-more i found (bit_or found (get_or columns.targets i 0)) o eo (rw (eq-eqb (missed_at i o) 0 none)) before
+
+  pub scan-missed : (i found o : ℕ) → o ≡ differs (get_or columns.symbols i 0) symbol → (missed_at i o ≡ 0 → ⊥) → Sofar i found → Sofar (i + 1) found
+  scan-missed i found o eo some before = scan-more i found found o eo (rw (ne_eqb (missed_at i o) 0 some)) before

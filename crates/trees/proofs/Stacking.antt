@@ -4,27 +4,28 @@ use native.Mathlib.Numerals.{add-one}
 use native.Mathlib.Omega.{arith}
 use mathlib.Core.Bool.{Bool, true, false, false≢true, not, ◌&&◌}
 use mathlib.Core.Path.{◌≡◌, refl, sym, ◌∙◌, ap, ap₂}
-use mathlib.Core.List.{List, [], ◌∷◌}
+use mathlib.Core.List.{List, [], ◌∷◌, reverse}
+use Rattle.std.specs.Prelude.{Option, None, Some, Result, Ok, Err}
+use Rattle.std.specs.Option.{ok_or}
+use Rattle.automaton.specs.declared.Refused.{Refused}
+use Rattle.automaton.specs.declared.Refused.TheVariants.{NoTree}
+use Rattle.std.proofs.lemmas.List.{get_or-reverse, length-reverse}
 use lib.Bits.{bit_and, and_lt}
 use lib.Dec.{eqb}
-use lib.ListN.{length, get_or, set, take, drop, take-append-drop}
+use lib.ListN.{length, get_or, set, take, drop, length-drop, take-append-drop}
 use lib.Seq.{drop-cons, get_or-set_same, get_or-set_other}
-use borrow.Author.Tests.{eqb-true, eq-eqb, ne_eqb}
+use borrow.Author.Tests.{eqb-true, eq-eqb, le-leb}
 use Rattle.sets.specs.Members.{has, state_width}
 use Rattle.sets.proofs.Bits.{has-and, has-zero, same-members}
-use Rattle.automaton.specs.Held.{Held, Valid, most_symbols, most_arity}
-use Rattle.trees.specs.Words.{KnownIn, arity_in}
-use Rattle.trees.specs.Piles.{meets, reached_from, broken, pile, put, pile_of, trees_answer, pile_answer, Climbed}
-use Rattle.trees.specs.Columns.{Tabled, SetOver}
-use Rattle.ground.specs.Lists.{firsts}
-use Rattle.ground.proofs.Lists.{below-pick, below-some, get_or-firsts, length-firsts}
-use Rattle.trees.proofs.Piling.{put-done, put-unknown, put-few, stay-broken}
-use Rattle.trees.proofs.Firing.{small-arity, scan-reached, leaf-reached}
-
--- the first `depth` places, from the top down
-unfoldable pub down : List ℕ → ℕ → List ℕ
-down places zero = []
-down places (suc depth) = get_or places depth 0 ∷ down places depth
+use Rattle.automaton.specs.Held.{Held, most_arity}
+use Rattle.trees.specs.Words.{KnownIn, arity_in, most_words}
+use Rattle.trees.specs.Stacks.{down, alone, TakenOff}
+use Rattle.trees.specs.Piles.{meets, reached_from, Pile, broken, pile, put, pile_of, pile_answer, one_left, tree_answer, words_answer}
+use Rattle.trees.specs.declared.columns.Columns.{Columns}
+use Rattle.trees.specs.Columns.{Ready, Scanned}
+use Rattle.ground.proofs.Lists.{below-pick, below-some}
+use Rattle.trees.proofs.Piling.{put-done, few-sets, stay-broken}
+use Rattle.trees.proofs.Firing.{scan-reached, leaf-reached}
 
 pub length-down : (places : List ℕ) (depth : ℕ) → length (down places depth) ≡ depth
 unfolding down
@@ -37,15 +38,28 @@ unfolding down
 down-set places i x zero h = refl
 down-set places i x (suc depth) h = ap₂ ◌∷◌ (get_or-set_other places i depth x 0 (λ e. omega arith)) (down-set places i x depth (omega arith))
 
-down-push : (places : List ℕ) (base x : ℕ) → base < length places → down (set places base x) (base + 1) ≡ x ∷ down places base
+pub down-push : (places : List ℕ) (base x : ℕ) → base < length places → down (set places base x) (base + 1) ≡ x ∷ down places base
 unfolding down
 down-push places base x h = ap (down (set places base x)) (add-one base) ∙ ap₂ ◌∷◌ (get_or-set_same places base x 0 h) (down-set places base x base (omega arith))
 
-drop-down : (places : List ℕ) (k base depth : ℕ) → depth ≡ k + base → drop k (down places depth) ≡ down places base
+pub drop-down : (places : List ℕ) (k base depth : ℕ) → depth ≡ k + base → drop k (down places depth) ≡ down places base
 unfolding down
 drop-down places zero base depth e = let same : depth ≡ base = omega arith in ap (down places) same
 drop-down places (suc k) base zero e = absurd (omega arith)
 drop-down places (suc k) base (suc depth) e = drop-down places k base depth (omega arith)
+
+-- one set, or another number of them
+pub one_alone : (places : List ℕ) (depth : ℕ) (sets : List ℕ) → down places depth ≡ sets → depth ≡ 1 → Some (get_or places 0 0) ≡ alone sets
+unfolding down
+one_alone places zero sets e h = absurd (omega arith)
+one_alone places (suc zero) sets e h = ap alone e
+one_alone places (suc (suc depth)) sets e h = absurd (omega arith)
+
+pub others_none : (places : List ℕ) (depth : ℕ) (sets : List ℕ) → down places depth ≡ sets → (depth ≡ 1 → ⊥) → None ≡ alone sets
+unfolding down
+others_none places zero sets e n = ap alone e
+others_none places (suc zero) sets e n = absurd (n refl)
+others_none places (suc (suc depth)) sets e n = ap alone e
 
 -- the top one, two or three
 pub tops : (places : List ℕ) (arity base depth : ℕ) → depth ≡ arity + base → 1 ≤ arity → arity ≤ most_arity
@@ -85,105 +99,96 @@ tops places (suc (suc (suc zero))) base depth e some few =
     one_more = omega arith
 tops places (suc (suc (suc (suc n)))) base depth e some few = absurd (omega arith)
 
--- ---- the set of one symbol
-
-module _ (held : Held) (v : Valid held) (table : List ℕ) (tabled : Tabled held.rules table) where
-  -- over the subtrees' sets on the pile it is the set that the symbol reaches
-  pub set-over : (f arity : ℕ) (places : List ℕ) (depth base x : ℕ) → f < most_symbols → arity ≡ arity_in held f → depth ≡ arity + base
-      → SetOver table f arity places base x → x ≡ reached_from held.rules f (take arity (down places depth))
-  set-over f zero places depth base x h is e over = over.leaf refl ∙ leaf-reached held v table f tabled h (sym is)
-  set-over f (suc k) places depth base x h is e over =
-      let first = get_or places (base + (suc k - 1)) 0 in
-      let second = get_or places (base + (suc k - 1) / 2) 0 in
-      let third = get_or places base 0 in
-      scan-reached held v table tabled f first second third x (over.inner (omega arith))
-      ∙ ap (λ (n : ℕ). reached_from held.rules f (take n (first ∷ (second ∷ (third ∷ []))))) (sym is)
-      ∙ ap (reached_from held.rules f) (sym (tops places (suc k) base depth e (omega arith) (omega (arith, small-arity held f v))))
-
 -- ---- one word
 
+module _ (held : Held) (columns : Columns) (ready : Ready held columns) (f : ℕ) (known : KnownIn held f) (sets : List ℕ) where
+  put-read : (x : ℕ) (rest : List ℕ) → arity_in held f ≤ length sets → x ≡ reached_from held.rules f (take (arity_in held f) sets) → rest ≡ drop (arity_in held f) sets
+      → put held f (pile sets) ≡ pile (x ∷ rest)
+  put-read x rest enough over off = rw (over, off) (put-done held f sets known enough)
+
+  -- a leaf's set
+  pub put-leaf : (x : ℕ) → arity_in held f ≡ 0 → x ≡ get_or columns.leaves f 0 → put held f (pile sets) ≡ pile (x ∷ sets)
+  put-leaf x leaf is =
+      put-read x sets (omega (arith, leaf))
+      (is ∙ leaf-reached held ready.valid columns f ready.tabled (omega (arith, ready.valid.few_symbols)) leaf ∙ ap (λ (n : ℕ). reached_from held.rules f (take n sets)) (sym leaf))
+      (ap (λ (n : ℕ). drop n sets) (sym leaf))
+
+  -- a set over those of the subtrees
+  pub put-over : (x : ℕ) (given rest : List ℕ) → most_arity ≤ length given → TakenOff (arity_in held f) sets rest given → Scanned columns (Some f) given x
+      → put held f (pile sets) ≡ pile (x ∷ rest)
+  put-over x given rest long off scan =
+      put-read x rest off.enough (scan-reached held ready.valid columns ready.tabled f given x long scan ∙ ap (reached_from held.rules f) off.taken) off.left
+
+-- ---- the words
+
 module _ (held : Held) (words : List ℕ) where
-  -- the words from i on leave the pile that stands in memory
-  abbrev pub Left : ℕ → List ℕ → ℕ → Type 0
-  Left i places depth = pile_of held (drop i words) ≡ pile (down places depth)
+  -- so many words, from the right end, leave these sets
+  abbrev pub Left : ℕ → List ℕ → Type 0
+  Left k sets = pile_of held (drop (length words - k) words) ≡ pile sets
 
-  pub left-none : (places : List ℕ) → Left (length words) places 0
-  unfolding down pile_of
-  left-none places = rw lib.Seq.drop-length
+  pub left-none : Left 0 []
+  unfolding pile_of
+  left-none = ap (λ (n : ℕ). pile_of held (drop n words)) (sub_none (length words)) ∙ rw lib.Seq.drop-length
+    where
+      sub_none : (n : ℕ) → n - 0 ≡ n
+      sub_none n = omega arith
 
-  module _ (i f : ℕ) (places : List ℕ) (depth : ℕ) (some : 0 < i) (inside : i ≤ length words) (is : f ≡ get_or words (i - 1) 0) (left : Left i places depth) where
-    word_first : pile_of held (drop (i - 1) words) ≡ put held f (pile (down places depth))
+  module _ (k f : ℕ) (sets : List ℕ) (turn : (k < length (reverse words)) × (f ≡ get_or (reverse words) k f)) (left : Left k sets) where
+    inside : k < length words
+    inside = omega (arith, turn.0, length-reverse words)
+
+    -- there is room for one set more
+    pub room-left : length sets < length words
+    room-left = omega (arith, inside, few-sets held (drop (length words - k) words) sets left, length-drop (length words - k) words)
+
+    word_first : pile_of held (drop (length words - (k + 1)) words) ≡ put held f (pile sets)
     unfolding pile_of
     word_first =
-        let next : suc (i - 1) ≡ i = omega arith in
-        ap (pile_of held) (drop-cons words (i - 1) 0 (omega arith))
+        let at : length words - 1 - k ≡ length words - (k + 1) = omega arith in
+        let is : f ≡ get_or words (length words - (k + 1)) f = turn.1 ∙ get_or-reverse words k f inside ∙ ap (λ (n : ℕ). get_or words n f) at in
+        let next : suc (length words - (k + 1)) ≡ length words - k = omega (arith, inside) in
+        ap (pile_of held) (drop-cons words (length words - (k + 1)) f (omega (arith, inside)))
         ∙ ap₂ (λ (g n : ℕ). put held g (pile_of held (drop n words))) (sym is) next
         ∙ ap (put held f) left
 
     -- what cannot be completed
-    all-broken : (x : ℕ) → put held f (pile (down places depth)) ≡ broken → pile_answer held (pile_of held words) ≡ trees_answer held.finals 0 x
-    unfolding pile_answer trees_answer
-    all-broken x e =
-        ap (pile_answer held) (ap (pile_of held) (sym (take-append-drop (i - 1) words)) ∙ stay-broken held (take (i - 1) words) (drop (i - 1) words) (word_first ∙ e))
+    pub left-broken : put held f (pile sets) ≡ broken → None ≡ one_left (pile_of held words)
+    left-broken e =
+        let at = length words - (k + 1) in
+        sym (ap one_left (ap (pile_of held) (sym (take-append-drop at words)) ∙ stay-broken held (take at words) (drop at words) (word_first ∙ e)))
 
-    pub unknown-word : (x : ℕ) → length held.arities ≤ f → pile_answer held (pile_of held words) ≡ trees_answer held.finals 0 x
-    unknown-word x h = all-broken x (put-unknown held f (pile (down places depth)) h)
-
-    pub few-trees : (x : ℕ) → depth < arity_in held f → pile_answer held (pile_of held words) ≡ trees_answer held.finals 0 x
-    few-trees x h = all-broken x (put-few held f (down places depth) (omega (arith, length-down places depth)))
-
-    pub word_read : (arity base x : ℕ) → KnownIn held f → arity ≡ arity_in held f → depth ≡ arity + base → base < length places
-        → x ≡ reached_from held.rules f (take arity (down places depth)) → Left (i - 1) (set places base x) (base + 1)
-    word_read arity base x known same e room over =
-        word_first ∙ put-done held f (down places depth) known (omega (arith, length-down places depth))
-        ∙ ap₂ (λ (y : ℕ) (ys : List ℕ). pile (y ∷ ys))
-        (ap (λ (n : ℕ). reached_from held.rules f (take n (down places depth))) (sym same) ∙ sym over)
-        (drop-down places (arity_in held f) base depth (omega arith))
-        ∙ ap pile (sym (down-push places base x room))
+    pub left-more : (more : List ℕ) → put held f (pile sets) ≡ pile more → Left (k + 1) more
+    left-more more e = word_first ∙ e
 
   -- ---- the end
 
-  pub left-all : (places : List ℕ) (depth : ℕ) → Left 0 places depth → pile_answer held (pile_of held words) ≡ trees_answer held.finals depth (get_or places 0 0)
-  unfolding pile_answer trees_answer down
-  left-all places zero e = ap (pile_answer held) e
-  left-all places (suc zero) e = ap (pile_answer held) e
-  left-all places (suc (suc depth)) e = rw (ne_eqb (suc (suc depth)) 1 (λ same. omega arith)) (ap (pile_answer held) e)
+  pub left-all : (k : ℕ) (sets : List ℕ) → k ≡ length words → Left k sets → alone sets ≡ one_left (pile_of held words)
+  left-all k sets e left =
+      let none : length words - k ≡ 0 = omega arith in
+      sym (ap (λ (n : ℕ). one_left (pile_of held (drop n words))) (sym none) ∙ ap one_left left)
 
--- ---- all the words, in every automaton with these arities and this table
+-- ---- the answer
 
-module _ (symbols : ℕ) (arities table words : List ℕ) where
-  abbrev pub Leaves : ℕ → List ℕ → ℕ → Type 0
-  Leaves i places depth =
-      (held : Held) → Valid held → held.arities ≡ firsts symbols 0 arities → Tabled held.rules table → Left held words i places depth
+pub pile-answered : (held : Held) (p : Pile) → tree_answer held.finals (one_left p) ≡ pile_answer held p
+unfolding pile_answer tree_answer
+pile-answered held broken = refl
+pile-answered held (pile []) = refl
+pile-answered held (pile (x ∷ [])) = refl
+pile-answered held (pile (x ∷ (y ∷ sets))) = refl
 
-  abbrev Ends : ℕ → ℕ → Type 0
-  Ends trees x = Climbed (firsts symbols 0 arities) table words trees x
+pub answered : (held : Held) (words : List ℕ) (left : Option ℕ) → length words ≤ most_words → left ≡ one_left (pile_of held words) → tree_answer held.finals left ≡ words_answer held words
+unfolding words_answer
+answered held words left few e = rw (le-leb (length words) most_words few) (ap (tree_answer held.finals) e ∙ pile-answered held (pile_of held words))
 
-  so-many : (held : Held) → held.arities ≡ firsts symbols 0 arities → length held.arities ≡ symbols
-  so-many held e = ap length e ∙ length-firsts symbols 0 arities
+-- ---- a set or none, as a result
 
-  arity-of : (held : Held) (f : ℕ) → f < symbols → held.arities ≡ firsts symbols 0 arities → get_or arities f 0 ≡ arity_in held f
-  arity-of held f known e = sym (ap (λ (l : List ℕ). get_or l f 0) e ∙ get_or-firsts symbols 0 arities f 0 known)
+pub err-left : (left : Option ℕ) (e : Refused) → ◌≡◌ {A = Result ℕ Refused} (Err e) (ok_or left NoTree) → (left ≡ None) × (e ≡ NoTree)
+err-left None e h = (refl, cc)
+err-left (Some x) e h = absurd (cc)
 
-  pub leaves_none : (places : List ℕ) → Leaves (length words) places 0
-  leaves_none places held v e tabled = left-none held words places
-
-  pub leaves_all : (places : List ℕ) (depth : ℕ) → Leaves 0 places depth → Ends depth (get_or places 0 0)
-  leaves_all places depth left held v e tabled = left-all held words places depth (left held v e tabled)
-
-  module _ (i f : ℕ) (places : List ℕ) (depth : ℕ) (some : 0 < i) (inside : i ≤ length words) (is : f ≡ get_or words (i - 1) 0) (left : Leaves i places depth) where
-    pub no_symbol : (x : ℕ) → symbols ≤ f → Ends 0 x
-    no_symbol x h held v e tabled = unknown-word held words i f places depth some inside is (left held v e tabled) x (omega (arith, so-many held e))
-
-    pub too_few : (x : ℕ) → f < symbols → depth < get_or arities f 0 → Ends 0 x
-    too_few x known h held v e tabled = few-trees held words i f places depth some inside is (left held v e tabled) x (omega (arith, arity-of held f known e))
-
-    pub one_more : (base x : ℕ) → f < symbols → depth ≡ get_or arities f 0 + base → base < length places → SetOver table f (get_or arities f 0) places base x
-        → Leaves (i - 1) (set places base x) (base + 1)
-    one_more base x known sum room over held v e tabled =
-        let same = arity-of held f known e in
-        word_read held words i f places depth some inside is (left held v e tabled) (get_or arities f 0) base x (omega (arith, so-many held e)) same sum room
-        (set-over held v table tabled f (get_or arities f 0) places depth base x (omega (arith, so-many held e, v.few_symbols)) same sum over)
+pub ok-left : (left : Option ℕ) (x : ℕ) → ◌≡◌ {A = Result ℕ Refused} (Ok x) (ok_or left NoTree) → left ≡ Some x
+ok-left None x h = absurd (cc)
+ok-left (Some y) x h = cc
 
 -- ---- the yes
 

@@ -6,13 +6,13 @@ use mathlib.Core.Bool.{Bool, true, false, cond}
 use mathlib.Core.Path.{◌≡◌, refl, sym, ◌∙◌, ap}
 use mathlib.Core.List.{List, []}
 use lib.Dec.{ltb}
-use lib.ListN.{length, get_or, take, replicate, length-map, get_or-map, get_or-eq_default}
-use lib.Seq.{take_all}
+use lib.ListN.{length, get_or, take, replicate, length-map, length-take, get_or-map, get_or-eq_default}
+use lib.Seq.{get_or-take}
 use borrow.Author.Tests.{ltb-true}
 use Rattle.sets.specs.Members.{state_width}
 use Rattle.automaton.specs.declared.Row.{Row}
 use Rattle.automaton.specs.declared.Automaton.{Automaton}
-use Rattle.automaton.specs.Held.{Rule, ValidRule, Valid, most_symbols, most_arity, most_rows}
+use Rattle.automaton.specs.Held.{Rule, ValidRule, Valid, most_symbols, most_arity}
 use Rattle.ground.specs.Lists.{firsts}
 use Rattle.automaton.specs.Answers.{unused_row, rule_held, held_by}
 use Rattle.trees.specs.Columns.{need, need_at}
@@ -25,6 +25,12 @@ row_at a i = get_or a.rows i (record { symbol = 0; target = 0; sources = [] })
 unfoldable pub rule_at : Automaton → ℕ → Rule
 rule_at a i = get_or (held_by a).rules i (rule_held (held_by a).arities unused_row)
 
+-- a row of those that count
+pub row-read : (a : Automaton) (n i : ℕ) → n ≡ a.count → i < length (take n a.rows) → (i < a.count) × (get_or (take n a.rows) i (record { symbol = 0; target = 0; sources = [] }) ≡ row_at a i)
+row-read a n i e h =
+    let few : i < n = omega (arith, length-take n a.rows) in
+    (omega arith, get_or-take n a.rows i (record { symbol = 0; target = 0; sources = [] }) few)
+
 module _ (a : Automaton) where
   pub so-many-symbols : length (held_by a).arities ≡ a.symbols
   unfolding held_by
@@ -34,19 +40,17 @@ module _ (a : Automaton) where
   unfolding held_by
   so-many-rows = length-map (firsts a.count unused_row a.rows) (rule_held (firsts a.symbols 0 a.arities)) ∙ length-firsts a.count unused_row a.rows
 
-  pub all-rows : take a.count (held_by a).rules ≡ (held_by a).rules
-  all-rows = take_all a.count (held_by a).rules (omega (arith, so-many-rows))
-
   pub arity-at : (f : ℕ) → f < a.symbols → get_or (held_by a).arities f 0 ≡ get_or a.arities f 0
   unfolding held_by
   arity-at f h = get_or-firsts a.symbols 0 a.arities f 0 h
 
+  -- the arity of a symbol, as the code reads it
+  pub arity-read : (f s n : ℕ) → f < a.symbols → s ≡ f → n ≡ get_or a.arities s 0 → n ≡ get_or (held_by a).arities f 0
+  arity-read f s n known same e = e ∙ ap (λ (g : ℕ). get_or a.arities g 0) same ∙ sym (arity-at f known)
+
   module _ (i : ℕ) (h : i < a.count) where
     pub row_inside : i < length (held_by a).rules
     row_inside = omega (arith, so-many-rows)
-
-    pub row_small : Valid (held_by a) → i < most_rows
-    row_small v = omega (arith, so-many-rows, v.few_rules)
 
     rule-at : rule_at a i ≡ rule_held (held_by a).arities (get_or a.rows i unused_row)
     unfolding rule_at held_by

@@ -4,4 +4,5 @@ pub mod Runs
 pub mod Promises
 -- for the contracts of private functions
 pub mod Columns
+pub mod Stacks
 pub mod Piles

@@ -1,13 +1,13 @@
 -- How the run goes, for the contracts of the private functions: the words are read from the right end. Each symbol takes as many sets off a pile as its arity, and puts back the set that its node reaches.
 -- The promises do not rest on this page: that it finds the trees, and their reached states, is proved.
-use Rattle.std.specs.Prelude.{ℕ, Bool, true, false, cond, ◌&&◌, List, [], ◌∷◌, ◌≡◌, leb, ltb, eqb, length, take, drop}
+use Rattle.std.specs.Prelude.{ℕ, Bool, true, false, cond, ◌&&◌, List, [], ◌∷◌, ◌≡◌, leb, ltb, eqb, length, take, drop, Option, None, Some, MatchOption}
 use Rattle.sets.specs.Members.{has, set_of, state_width}
 use Rattle.automaton.specs.Refusals.{refusal, no_refusal}
-use Rattle.automaton.specs.Held.{Rule, Held, Valid}
+use Rattle.automaton.specs.Held.{Rule, Held}
 use Rattle.trees.specs.declared.ReachedStates.{ReachedStates}
 use Rattle.trees.specs.Words.{arity_in, most_words}
 use Rattle.trees.specs.Promises.{no_run}
-use Rattle.trees.specs.Columns.{Tabled}
+use Rattle.trees.specs.Stacks.{alone}
 use Rattle.ground.specs.Lists.{any_of, any_below}
 
 -- have two sets of states a member in common?
@@ -42,6 +42,10 @@ put held f (pile sets) =
     (pile (reached_from held.rules f (take (arity_in held f) sets) ∷ drop (arity_in held f) sets))
     broken
 
+-- the pile of these sets becomes that of those, or is broken
+abbrev pub Puts : Held → ℕ → (before after : List ℕ) → Option (Unit {0}) → Type 0
+Puts held f before after done = MatchOption done (put held f (pile before) ≡ broken) (λ _. put held f (pile before) ≡ pile after)
+
 unfoldable pub pile_of : Held → List ℕ → Pile
 pile_of held [] = pile []
 pile_of held (f ∷ words) = put held f (pile_of held words)
@@ -52,10 +56,6 @@ pile_of held (f ∷ words) = put held f (pile_of held words)
 unfoldable pub run_to : ℕ → ℕ → ReachedStates
 run_to finals x = record { refusal = no_refusal; states = record { 0 = x }; yes = meets x finals }
 
--- the answer where so many trees are left, the last of which reaches the set x: the run of one tree, or refusal 7
-unfoldable pub trees_answer : (finals trees x : ℕ) → ReachedStates
-trees_answer finals trees x = cond (eqb trees 1) (run_to finals x) (no_run (refusal 7))
-
 -- one tree is left, or not
 unfoldable pub pile_answer : Held → Pile → ReachedStates
 pile_answer held broken = no_run (refusal 7)
@@ -63,10 +63,15 @@ pile_answer held (pile []) = no_run (refusal 7)
 pile_answer held (pile (x ∷ [])) = run_to held.finals x
 pile_answer held (pile (x ∷ (y ∷ sets))) = no_run (refusal 7)
 
--- the answer for the words is that for so many trees, the last of which reaches the set x, in every automaton that declares these arities and whose rows the table has
-abbrev pub Climbed : (arities table words : List ℕ) (trees x : ℕ) → Type 0
-Climbed arities table words trees x =
-    (held : Held) → Valid held → held.arities ≡ arities → Tabled held.rules table → pile_answer held (pile_of held words) ≡ trees_answer held.finals trees x
+-- the run of the tree that reaches the set; refusal 7 where there is none
+unfoldable pub tree_answer : ℕ → Option ℕ → ReachedStates
+tree_answer finals None = no_run (refusal 7)
+tree_answer finals (Some x) = run_to finals x
+
+-- the set of the one tree that is left, if one is
+abbrev pub one_left : Pile → Option ℕ
+one_left broken = None
+one_left (pile sets) = alone sets
 
 unfoldable pub words_answer : Held → List ℕ → ReachedStates
 words_answer held words = cond (leb (length words) most_words) (pile_answer held (pile_of held words)) (no_run (refusal 7))

@@ -4,13 +4,15 @@
 ghost use Rattle.std.specs.Prelude.{◌≡◌};
 ghost use Rattle.trees.specs.Promises.{RunPromise, ProductivePromise, run_of, states_of};
 
+use crate::runner::Runner;
 use automaton::{Refusal, Refused};
 use sets::StateSet;
 
 mod climb;
 mod columns;
 mod rounds;
-mod scan;
+mod runner;
+mod stack;
 
 // What a run reaches: the states, and whether a final one is among them.
 #[derive(Clone, Copy)]
@@ -67,7 +69,7 @@ impl From<Result<StateSet, Refused>> for ProductiveStates {
 pub fn run(file: &[u8], words: &[u16]) -> Result<Reached, Refused>
     ensures { RunPromise file.now words.now (run_of result) }
 {
-    climb::answer(automaton::read(file)?, words)
+    climb::answer(&Runner::of(&automaton::read(file)?), words)
 }
 
 // The productive states of the file's automaton.
@@ -75,5 +77,5 @@ pub fn productive(file: &[u8]) -> Result<StateSet, Refused>
     ensures { ProductivePromise file.now (states_of result) }
 {
     let value = automaton::read(file)?;
-    Ok(StateSet(rounds::rounds(value)))
+    Ok(StateSet(rounds::rounds(&Runner::of(&value))))
 }

@@ -7,8 +7,8 @@ use Rattle.trees.proofs.Promised.{run-fault, run-held}
 use Rattle.automaton.proofs.Handing.{result-fault, result-held}
 use Rattle.trees.proofs.run.Goals as goal
 
-pub answer-requires : goal.answer-requires
-answer-requires c = (result-held c.args.file.now c.in_ok-read.field-0 c.in_ok-read.ensures).handed.valid
+pub of-requires : goal.of-requires
+of-requires c = (result-held c.args.file.now c.in_ok-read.field-0 c.in_ok-read.ensures).handed.valid
 
 pub returns-in_err-read : goal.returns-in_err-read
 returns-in_err-read c =
@@ -23,5 +23,5 @@ pub returns : goal.returns
 returns c =
     let args = c.args in
     let handed = result-held args.file.now c.in_ok-read.field-0 c.in_ok-read.ensures in
-    subst (RunPromise args.file.now args.words.now) (sym (c.answer.ensures ∙ ap (λ (held : Held). words_answer held args.words.now) handed.said))
+    subst (RunPromise args.file.now args.words.now) (sym (c.answer.ensures ∙ ap (λ (held : Held). words_answer held args.words.now) (c.of.ensures ∙ handed.said)))
     (run-held args.file.now args.words.now handed.held handed.in_file)

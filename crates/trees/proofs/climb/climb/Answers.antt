@@ -1,43 +1,42 @@
-use Prim.Native.Nat.{◌-◌}
-use mathlib.Core.Path.{◌≡◌, refl}
-use lib.ListN.{get_or, length-set}
-use Rattle.trees.proofs.Stacking.{leaves_none, no_symbol, too_few, one_more, leaves_all}
+use mathlib.Core.Path.{◌∙◌}
+use Prim.Native.Nat.{◌<◌}
+use mathlib.Core.Path.{◌≡◌}
+use mathlib.Core.List.{reverse}
+use lib.ListN.{length, get_or}
 use native.Mathlib.Omega.{arith}
+use Rattle.std.proofs.Common.{rules}
+use Rattle.std.proofs.lemmas.List.{length_push, length-reverse}
+use Rattle.std.proofs.lemmas.Iterator.Adapters.{YieldsList-from_rev_slice}
+use Rattle.std.proofs.lemmas.Iterator.Consumers.{YieldsList-turn, YieldsList-end}
+use Rattle.trees.proofs.Stacking.{left-none, left-broken, left-more, room-left, left-all}
 use Rattle.trees.proofs.climb.climb.Goals as goal
+use Rattle.trees.proofs.climb.climb.Goals.{In-Some}
 
-pub loop-i-init : goal.loop-i-init
-loop-i-init c = let args = c.args in (omega arith, omega arith, refl, leaves_none args.symbols args.arities args.t.now args.words.now _)
+pub loop-word-init : goal.loop-word-init
+loop-word-init g c = rw c.new-pile.ensures (left-none c.args.runner.now c.args.words.now)
 
-pub returns-then-symbols-f : goal.returns-then-symbols-f
-returns-then-symbols-f c =
-    let args = c.args in
-    let loop = c.loop-i in
-    no_symbol args.symbols args.arities args.t.now args.words.now loop.i c.at-f.result loop.pile loop.depth c.loop-i-test.true loop.invariant.0 c.at-f.ensures loop.invariant.3 _ c.if-symbols-f.true
+-- the word that is read in a turn
+turn : (g : _) (c : In-Some g) → (length c.loop-word.yielded < length (reverse c.args.words.now)) × (c.in-Some.field-0.now ≡ get_or (reverse c.args.words.now) (length c.loop-word.yielded) c.in-Some.field-0.now)
+turn g c =
+    YieldsList-turn (YieldsList-from_rev_slice c.args.words.now cc) c.loop-word.yielded _ c.loop-word.yielded_by _ _ c.in-Some.field-0 c.in-Some.is c.next.ensures.steps
 
-pub returns-then-depth-arity : goal.returns-then-depth-arity
-returns-then-depth-arity c =
-    let args = c.args in
-    let loop = c.loop-i in
-    too_few args.symbols args.arities args.t.now args.words.now loop.i c.at-f.result loop.pile loop.depth c.loop-i-test.true loop.invariant.0 c.at-f.ensures loop.invariant.3 _ c.if-symbols-f.false c.if-depth-arity.true
+pub put-requires : goal.put-requires
+put-requires g c =
+    let read = turn g (goal.at.put-requires g c).In-Some in
+    let room = room-left c.args.runner.now c.args.words.now (length c.loop-word.yielded) c.in-Some.field-0.now c.loop-word.pile read c.loop-word.invariant in
+    (search rules, (omega (arith, room), c.requires.places_fit))
 
-pub over-requires : goal.over-requires
-over-requires c = record { f_lt_most_symbols = omega arith; arity_in_bounds = omega arith; table_places_in_bounds = omega arith }
+pub returns-in_err-put : goal.returns-in_err-put
+returns-in_err-put g c =
+    let read = turn g (goal.at.returns-in_err-put g c).In-Some in
+    rw c.from_residual.ensures (left-broken c.args.runner.now c.args.words.now (length c.loop-word.yielded) c.in-Some.field-0.now c.loop-word.pile read c.loop-word.invariant c.in_err-put.ensures)
 
-pub loop-i-preserved : goal.loop-i-preserved
-loop-i-preserved c =
-    let args = c.args in
-    let loop = c.loop-i in
-    let read = c.at-f in (
-      omega arith,
-      omega arith,
-      simp length-set loop.invariant.2,
-      one_more args.symbols args.arities args.t.now args.words.now loop.i read.result loop.pile loop.depth c.loop-i-test.true loop.invariant.0 read.ensures loop.invariant.3 (loop.depth - get_or args.arities read.result 0) c.over.result
-          c.if-symbols-f.false (omega arith) (omega arith) c.over.ensures,
-    )
+pub loop-word-preserved : goal.loop-word-preserved
+loop-word-preserved g c =
+    let read = turn g (goal.at.loop-word-preserved g c).In-Some in
+    rw (length_push c.loop-word.yielded c.in-Some.field-0) (left-more c.args.runner.now c.args.words.now (length c.loop-word.yielded) c.in-Some.field-0.now c.loop-word.pile read c.loop-word.invariant _ c.in_ok-put.ensures)
 
 pub returns : goal.returns
-returns c =
-    let args = c.args in
-    let loop = c.loop-i in
-    let start : loop.i ≡ 0 = omega arith in
-    leaves_all args.symbols args.arities args.t.now args.words.now loop.pile loop.depth (rw start at loop.invariant.3)
+returns g c =
+    let end = YieldsList-end (YieldsList-from_rev_slice c.args.words.now cc) c.loop-word.yielded _ c.loop-word.yielded_by _ _ c.in-None.is c.next.ensures.steps in
+    c.only.ensures ∙ left-all c.args.runner.now c.args.words.now (length c.loop-word.yielded) c.loop-word.pile (end.1 ∙ length-reverse c.args.words.now) c.loop-word.invariant

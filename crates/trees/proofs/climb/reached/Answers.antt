@@ -1,19 +1,22 @@
 use mathlib.Core.Bool.{Bool}
 use mathlib.Core.Path.{ap}
-use borrow.Author.Tests.{eq-eqb, ne_eqb}
-use Rattle.automaton.specs.Refusals.{no_refusal}
-use Rattle.trees.specs.Piles.{run_to, trees_answer}
-use Rattle.trees.proofs.Stacking.{meets-and}
 use native.Mathlib.Omega.{arith}
+use Rattle.std.proofs.lemmas.Result.{err_from_is_err_and}
+use Rattle.automaton.specs.Refusals.{no_refusal}
+use Rattle.trees.specs.Piles.{run_to, tree_answer}
+use Rattle.trees.proofs.Stacking.{err-left, ok-left, meets-and}
 use Rattle.trees.proofs.climb.reached.Goals as goal
 
-pub returns-then-trees-ne1 : goal.returns-then-trees-ne1
-unfolding trees_answer
-returns-then-trees-ne1 c = rw (ne_eqb c.args.trees 1 c.if-trees-ne1.true)
+pub returns-in_err-set : goal.returns-in_err-set
+unfolding tree_answer
+returns-in_err-set c =
+    let p = err_from_is_err_and c.from_residual.result c.from_residual.ensures.1 in
+    let e = err-left c.args.set c.in_err-set.field-0.0 c.in_err-set.ensures.value in
+    rw (p.1, p.2, e.0, e.1)
 
 pub returns : goal.returns
-unfolding trees_answer run_to
+unfolding run_to tree_answer
 returns c =
-    let args = c.args in
-    rw (eq-eqb args.trees 1 c.if-trees-ne1.false)
-    (ap (λ (b : Bool). record { refusal = no_refusal; states = record { 0 = args.set }; yes = b }) (meets-and args.set args.finals.0 (omega arith) (omega arith)))
+    let set = c.in_ok-set.set in
+    rw (ok-left c.args.set set c.in_ok-set.ensures.value)
+    (ap (λ (b : Bool). record { refusal = no_refusal; states = record { 0 = set }; yes = b }) (meets-and set c.args.finals.0 (omega arith) (omega arith)))
