@@ -5,13 +5,13 @@ use native.Mathlib.Decide.{dec_lt}
 use mathlib.Core.Path.{◌≡◌, refl, sym, ◌∙◌, ap}
 use mathlib.Core.List.{List, [], ◌∷◌}
 use lib.ListN.{length, take, drop, length-take, get_or-eq_default}
-use lib.Seq.{drop-drop, ext_get_or, get_or-take}
+use lib.Seq.{drop-drop, ext_get_or, get_or-take, take_all}
 use Rattle.std.proofs.lemmas.List.{take-map}
 use Rattle.std.specs.Simd.{first_chunks}
 use Rattle.expressions.specs.Nodes.{no_node, node_at}
 use Rattle.expressions.specs.Words.{node_width, decode, read_node, node_in, table_of}
 use Rattle.expressions.specs.Inside.{nodes_of}
-use Rattle.expressions.proofs.Words.{node-whole, node-past, length-table, table_at}
+use Rattle.expressions.proofs.Words.{node-whole, node-past, length-table, table_at, table_same}
 
 -- only its own words count
 decode-front : (words : List ℕ) → decode (take node_width words) ≡ decode words
@@ -63,3 +63,12 @@ module _ (words : List ℕ) where
     where
       size : length (take count (nodes_of whole)) ≡ length (table_of words count)
       size = simp length-take (omega (arith, length-table words count, many (length words / node_width) words))
+
+-- the nodes in the words before a node's place are the table so far
+pub table-front : (words : List ℕ) (count : ℕ) {front : List ℕ} → front ≡ take (node_width * count) words → length front ≡ node_width * count
+    → nodes_of (whole front) ≡ table_of words count
+table-front words count {front} e l =
+    sym (take_all count (nodes_of (whole front)) (omega (arith, many (length front / node_width) front)))
+    ∙ take-map decode count (whole front)
+    ∙ table-chunks front count (omega arith)
+    ∙ table_same front words count (λ j h. rw e (get_or-take (node_width * count) words j 0 h))

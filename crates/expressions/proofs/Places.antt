@@ -1,20 +1,20 @@
 -- The places for children, those that are used and those that are not: what the code's tests and sums over them come to.
-use Prim.Native.Nat.{ℕ, ◌+◌, ◌^◌, ◌%◌, ◌<◌, min}
+use Prim.Native.Nat.{ℕ, zero, suc, ◌+◌, ◌^◌, ◌%◌, ◌<◌, min}
 use native.Mathlib.Omega.{arith}
 use native.Mathlib.Nat.{add_assoc}
 use mathlib.Core.Path.{◌≡◌, sym, ◌∙◌, ap}
-use mathlib.Core.Bool.{Bool, ◌||◌, or-false, or_assoc}
+use mathlib.Core.Bool.{Bool, cond, ◌&&◌, ◌||◌, or-false, or_assoc}
 use mathlib.Core.List.{List, [], ◌∷◌, ◌++◌, map, map-append}
 use lib.Dec.{ltb, eqb}
 use lib.ListN.{take, drop}
 use borrow.Author.Tests.{lt-ltb}
-use Rattle.std.specs.List.{list_all, fold}
+use Rattle.std.specs.List.{list_all, enumerate_from, fold}
 use Rattle.sets.specs.Members.{has, empty_set, union, state_width}
 use Rattle.sets.proofs.Bits.{has-set_of, set_of-same}
 use Rattle.sets.proofs.Membership.{has-empty, union-cut-right}
 use Rattle.ground.specs.Decides.{Decides}
 use Rattle.ground.specs.Lists.{All}
-use Rattle.ground.proofs.Deciding.{decides-yes, decides-lt, decides_eq}
+use Rattle.ground.proofs.Deciding.{decides-yes, decides-as, decides-lt, decides_eq}
 use Rattle.ground.proofs.Truth.{and_parts, and_both}
 use Rattle.expressions.specs.declared.Shape.{Shape}
 use Rattle.expressions.specs.Nodes.{child_count, places, children, unused}
@@ -22,24 +22,42 @@ use Rattle.expressions.specs.Soundness.{union_all}
 use Rattle.expressions.specs.Sizes.{held, most_size}
 use Rattle.expressions.specs.Inside.{sum_all}
 
+decides-and : {A B : Type 0} {a b : Bool} → Decides A a → Decides B b → Decides (A × B) (a && b)
+decides-and {a = a} {b = b} d e =
+    record { only = λ h. let p = and_parts a b h in (d.only p.0, e.only p.1); always = λ h. and_both a b (d.always h.0) (e.always h.1) }
+
 -- a test of each decides what holds of each
 each-decided : {P : ℕ → Type 0} (test : ℕ → Bool) → ((x : ℕ) → Decides (P x) (test x)) → (xs : List ℕ) → Decides (All P xs) (list_all test xs)
 each-decided test d [] = decides-yes tt
-each-decided test d (x ∷ xs) =
-    let rest = each-decided test d xs in
-    record {
-      only = λ e. let p = and_parts (test x) (list_all test xs) e in ((d x).only p.0, rest.only p.1);
-      always = λ h. and_both (test x) (list_all test xs) ((d x).always h.0) (rest.always h.1);
-    }
+each-decided test d (x ∷ xs) = decides-and (d x) (each-decided test d xs)
 
-module _ (shape : Shape) {n : ℕ} (e : n ≡ child_count shape.kind shape.label) where
-  pub earlier-decided : (number : ℕ) {b : Bool} → b ≡ list_all (λ x. ltb x number) (take n (places shape)) → Decides (All (λ c. c < number) (children shape)) b
-  unfolding children
-  earlier-decided number d = rw (d, e) (each-decided (λ x. ltb x number) (λ x. decides-lt x number) (children shape))
+each-below : (number : ℕ) (xs : List ℕ) → Decides (All (λ c. c < number) xs) (list_all (λ x. ltb x number) xs)
+each-below number xs = each-decided (λ x. ltb x number) (λ x. decides-lt x number) xs
 
-  pub zeros-decided : {b : Bool} → b ≡ list_all (λ x. eqb x 0) (drop n (places shape)) → Decides (All (λ c. c ≡ 0) (unused shape)) b
-  unfolding unused
-  zeros-decided d = rw (d, e) (each-decided (λ x. eqb x 0) (λ x. decides_eq x 0) (unused shape))
+each-zero : (xs : List ℕ) → Decides (All (λ c. c ≡ 0) xs) (list_all (λ x. eqb x 0) xs)
+each-zero xs = each-decided (λ x. eqb x 0) (λ x. decides_eq x 0) xs
+
+-- the test of one place, the first n of which are used
+abbrev pub place_test : ℕ → ℕ → ℕ × ℕ → Bool
+place_test number n p = cond (ltb p.0 n) (ltb p.1 number) (eqb p.1 0)
+
+places-decided : (number n a b c : ℕ)
+    → Decides (All (λ x. x < number) (take n (a ∷ b ∷ c ∷ [])) × All (λ x. x ≡ 0) (drop n (a ∷ b ∷ c ∷ []))) (list_all (place_test number n) (enumerate_from 0 (a ∷ b ∷ c ∷ [])))
+places-decided number zero a b c = decides-as (each-zero (a ∷ b ∷ c ∷ [])) (λ h. (tt, h)) (λ p. p.1)
+places-decided number (suc zero) a b c = decides-as (decides-and (decides-lt a number) (each-zero (b ∷ c ∷ []))) (λ h. ((h.0, tt), h.1)) (λ p. (p.0.0, p.1))
+places-decided number (suc (suc zero)) a b c =
+    decides-as (decides-and (decides-lt a number) (decides-and (decides-lt b number) (each-zero (c ∷ [])))) (λ h. ((h.0, (h.1.0, tt)), h.1.1)) (λ p. (p.0.0, (p.0.1.0, p.1)))
+places-decided number (suc (suc (suc n))) a b c = rw (lt-ltb 0 (suc (suc (suc n))) (omega arith), lt-ltb 1 (suc (suc (suc n))) (omega arith), lt-ltb 2 (suc (suc (suc n))) (omega arith)) (past n)
+  where
+    past : (n : ℕ) → Decides ((a < number × (b < number × (c < number × All (λ (x : ℕ). x < number) (take n [])))) × All (λ (x : ℕ). x ≡ 0) (drop n [])) (list_all (λ x. ltb x number) (a ∷ b ∷ c ∷ []))
+    past zero = decides-as (each-below number (a ∷ b ∷ c ∷ [])) (λ h. (h, tt)) (λ p. p.0)
+    past (suc n) = decides-as (each-below number (a ∷ b ∷ c ∷ [])) (λ h. (h, tt)) (λ p. p.0)
+
+-- the tests of all of them
+pub fits-decided : (number : ℕ) (shape : Shape) {n : ℕ} {b : Bool} → n ≡ child_count shape.kind shape.label → b ≡ list_all (place_test number n) (enumerate_from 0 (places shape))
+    → Decides (All (λ c. c < number) (children shape) × All (λ c. c ≡ 0) (unused shape)) b
+unfolding children unused
+fits-decided number shape e d = rw (d, e) (places-decided number (child_count shape.kind shape.label) shape.first shape.second shape.third)
 
 -- ---- put together over the children
 

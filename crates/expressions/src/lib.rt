@@ -149,18 +149,28 @@ pub fn make(
     if !nodes::shape_fits(count, shape) {
         return Err(Refused::Unsound);
     }
-    let (nodes, _) = words.as_chunks();
-    if MOST_NODES <= count || nodes.len() <= count {
+    if MOST_NODES <= count {
         return Err(Refused::Short);
     }
-    let opens = nodes::open_of(nodes, shape);
-    let at = NODE_WIDTH * count;
-    words[at..at + NODE_WIDTH].copy_from_slice(&Node { shape, opens }.words());
+    let Some((earlier, rest)) = words.split_at_mut_checked(NODE_WIDTH * count) else {
+        return Err(Refused::Short);
+    };
+    let Some(place) = rest.first_chunk_mut() else {
+        return Err(Refused::Short);
+    };
+    let (earlier, _) = earlier.as_chunks();
+    let opens = nodes::open_of(earlier, shape);
+    *place = Node { shape, opens }.words();
     Ok(())
 }
 
 // The written-out sizes of the nodes, into the scratch words, and the answer's.
-pub fn measure(words: &[u32], count: usize, answer: usize, scratch: &mut [u32]) -> Result<u32, Refused>
+pub fn measure(
+    words: &[u32],
+    count: usize,
+    answer: usize,
+    scratch: &mut [u32],
+) -> Result<u32, Refused>
     ensures { Measures words.now count answer scratch.old scratch.new (measured_of result) }
 {
     let Some(nodes) = sound_nodes(words, count, answer) else {

@@ -42,13 +42,18 @@ fn label_fits(kind: u32, label: u32) -> bool
 fn places_fit(number: usize, shape: Shape) -> bool
     ensures { Decides (All (λ c. c < number) (children shape) × All (λ c. c ≡ 0) (unused shape)) result }
 {
-    let places = shape.places();
     let used = shape.child_count() as usize;
-    places.iter().take(used).all(|child| (*child as usize) < number)
-        && places.iter().skip(used).all(|place| *place == 0)
+    shape.places().iter().enumerate().all(|(place, child)| {
+        if place < used {
+            (*child as usize) < number
+        } else {
+            *child == 0
+        }
+    })
 }
 
-// May the node of this number have this shape?
+// May the node of this number have this shape? Inline, since the check and `make` are a third slower where it is called.
+#[inline]
 pub fn shape_fits(number: usize, shape: Shape) -> bool
     ensures { Decides (Fits number shape) result }
 {
@@ -69,7 +74,10 @@ fn union_opens(nodes: &[[u32; NODE_WIDTH]], shape: Shape) -> u32
     let places = shape.places();
     let children = places.iter().take(shape.child_count() as usize);
     children
-        .fold(StateSet::EMPTY, |set, child| set.union(StateSet::of_word(opens_of(nodes, *child))))
+        .fold(
+            StateSet::EMPTY,
+            |set, child| set.union(StateSet::of_word(opens_of(nodes, *child))),
+        )
         .0
         .wide()
 }
@@ -94,7 +102,8 @@ fn iter_opens(q: u32, child: u32) -> u32
     StateSet::of_word(child).union(StateSet::one(q)).0.wide()
 }
 
-// The open set of a node, by those of its children among these nodes.
+// The open set of a node, by those of its children among these nodes. Inline, for the same reason.
+#[inline]
 pub fn open_of(nodes: &[[u32; NODE_WIDTH]], shape: Shape) -> u32
     requires { Labelled shape.kind shape.label }
     ensures { result ≡ opens_in (λ c. (node_at (nodes_of nodes.now) c).opens) shape }

@@ -17,6 +17,6 @@ returns c =
     let n = length c.args.nodes.now in
     sound-decided table (sym (length-map c.args.nodes.now decode)) c.all.result
     (cases_from_all _ _ _ (λ i. i < n → SoundNode (take i table) (node_at table i)) (λ i. i < n → SoundNode (take i table) (node_at table i) → ⊥) c.all.ensures.ran
-    (YieldsList-from_range 0 n n (cc) (omega arith)) 
+    (YieldsList-from_range 0 n n (cc) (omega arith))
     (λ x q k. (search rules, λ l. let d : x < n → Decides (SoundNode (take x table) (node_at table x)) true = search rules in (d l).only refl))
     (λ x q k l. let d : x < n → Decides (SoundNode (take x table) (node_at table x)) false = search rules in refuted (d l) refl))
