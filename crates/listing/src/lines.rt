@@ -103,6 +103,22 @@ impl Page<'_> {
         self.number(u64::from(n));
     }
 
+    // A blank and the name of a kind. Each kind has its arm, so that each name is copied as a constant: a copy by a length that is read first makes a listing an eighth slower.
+    fn name(&mut self, kind: u32)
+        ensures same_bytes { self.new.out.ghost_name ≡ self.old.out.ghost_name }
+        ensures wrote { FitsThen self.old.out.now self.old.at (name_bytes kind) self.new.out.now self.new.at }
+    {
+        match kind {
+            0 => self.put(name(0)),
+            1 => self.put(name(1)),
+            2 => self.put(name(2)),
+            3 => self.put(name(3)),
+            4 => self.put(name(4)),
+            5 => self.put(name(5)),
+            _ => self.put(name(kind)),
+        }
+    }
+
     // The label, where it is shown.
     fn label(&mut self, kind: u32, label: u32)
         ensures same_bytes { self.new.out.ghost_name ≡ self.old.out.ghost_name }
@@ -130,7 +146,7 @@ impl Page<'_> {
         ensures wrote { FitsThen self.old.out.now self.old.at (node_line plain_label number shape) self.new.out.now self.new.at }
     {
         self.number(number as u64);
-        self.put(name(shape.kind));
+        self.name(shape.kind);
         self.label(shape.kind, shape.label);
         self.children(shape);
         self.put(b"\n");

@@ -40,8 +40,7 @@ loop-i-preserved c =
     let few = c.requires.few in
     let f = shape-fits w c.args.count c.args.answer i c.requires c.loop-i-test.true in
     let n = node-whole w i (omega (arith, c.requires.roomy)) in
-    let e = rw c.node_at.ensures at c.line_length-total.ensures in
-    (
+    let e = rw c.node_at.ensures at c.line_length-total.ensures in (
       omega (arith, rw n at e, ap length (lines_more w i), length-append (lines_to w i) (node_line plain_label i (read_node w i).shape)),
       omega (arith, e, line-most i (node_in w i).shape (omega arith) f),
     )

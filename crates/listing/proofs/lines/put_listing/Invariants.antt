@@ -8,5 +8,5 @@ abbrev pub invariant-loop-i : goal.invariant-loop-i
 invariant-loop-i l =
     record {
       same_bytes : l.page.out.ghost_name ≡ l.initial.page.out.ghost_name;
-      wrote : Wrote l.initial.page.out.now 0 (lines_to l.words l.i) l.page.out.now l.page.at
+      wrote : Wrote l.initial.page.out.now 0 (lines_to l.words l.i) l.page.out.now l.page.at;
     }

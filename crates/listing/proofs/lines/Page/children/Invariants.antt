@@ -9,5 +9,5 @@ abbrev pub invariant-loop-child : goal.invariant-loop-child
 invariant-loop-child l =
     record {
       same_bytes : l.self.out.ghost_name ≡ l.initial.self.out.ghost_name;
-      wrote : FitsThen l.initial.self.out.now l.initial.self.at (spaced (map decimal (map (λ x. x.now) l.yielded))) l.self.out.now l.self.at
+      wrote : FitsThen l.initial.self.out.now l.initial.self.at (spaced (map decimal (map (λ x. x.now) l.yielded))) l.self.out.now l.self.at;
     }

@@ -7,4 +7,4 @@ pub returns-clause-wrote : goal.returns-clause-wrote
 returns-clause-wrote c =
     let a = c.args in
     rw (line-parts a.number a.shape)
-    (fits-then c.number.ensures.wrote (fits-then (rw c.name.ensures at c.put.ensures.wrote) (fits-then c.label.ensures.wrote (fits-then c.children.ensures.wrote c.put-2.ensures.wrote))))
+    (fits-then c.number.ensures.wrote (fits-then c.name.ensures.wrote (fits-then c.label.ensures.wrote (fits-then c.children.ensures.wrote c.put.ensures.wrote))))
