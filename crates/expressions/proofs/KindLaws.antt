@@ -1,21 +1,17 @@
--- The kinds by their numbers: how many children those of a range have, and what no kind has the number of.
+-- The kinds by their numbers: how many children those of a range have and what their open sets are, and what no kind has the number of.
 use Prim.Native.Nat.{ℕ, zero, suc, ◌-◌, ◌<◌}
 use native.Mathlib.Omega.{arith}
 use mathlib.Core.Path.{◌≡◌, refl, ap}
 use mathlib.Core.List.{List}
 use Rattle.sets.specs.Members.{empty_set, state_width}
 use Rattle.expressions.specs.Nodes.{otherᴷ, kind_of, child_count}
-use Rattle.expressions.specs.Soundness.{Labelled, union_all, opens_of}
+use Rattle.expressions.specs.Soundness.{union_all, opens_of}
 
 -- a number over 5 stands for no kind
 pub other-kind : (kind : ℕ) → 5 < kind → kind_of kind ≡ otherᴷ
 other-kind kind h = let e : kind ≡ suc (suc (suc (suc (suc (suc (kind - 6)))))) = omega arith in ap kind_of e
 
--- no label suits it
-pub no_kind : (kind label : ℕ) → 5 < kind → Labelled kind label → ⊥
-no_kind kind label h l = rw (other-kind kind h) at l
-
--- and a node of it has no children
+-- a node of it has no children
 pub other-count : (kind label : ℕ) → 5 < kind → child_count kind label ≡ 0
 unfolding child_count
 other-count kind label h = rw (other-kind kind h)

@@ -27,7 +27,7 @@ pub const MOST_NODES: usize = 4096;
 
 // What a node says: its kind, its label and three places for children.
 #[repr(C)]
-#[derive(Clone, Copy)]
+#[derive(Clone, Copy, PartialEq, Eq, Debug)]
 pub struct Shape {
     pub kind: u32,
     pub label: u32,
@@ -38,7 +38,7 @@ pub struct Shape {
 
 // A node: its shape, and the open set that follows from those of its children.
 #[repr(C)]
-#[derive(Clone, Copy)]
+#[derive(Clone, Copy, PartialEq, Eq, Debug)]
 pub struct Node {
     pub shape: Shape,
     pub opens: u32,
@@ -78,7 +78,7 @@ impl Node {
 }
 
 impl Shape {
-    // How many of the places are used.
+    // How many of the places are used, by the kind's number.
     #[tactic(auto, using(crate::proofs::KindLaws::counts), unfolding(crate::specs::Nodes::child_count))]
     pub fn child_count(self) -> u32
         ensures { result ≡ child_count self.kind self.label }
@@ -176,6 +176,7 @@ pub fn measure(
     let Some(nodes) = sound_nodes(words, count, answer) else {
         return Err(Refused::Unsound);
     };
+    // The rest has a name, since a proof knows only of what is named that it stays as it was.
     let Some((sizes, _rest)) = scratch.split_at_mut_checked(count) else {
         return Err(Refused::Short);
     };

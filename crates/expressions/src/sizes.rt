@@ -18,7 +18,7 @@ fn over_children(sizes: &[u32], shape: Shape) -> u32
     })
 }
 
-// The size of a node by those of the nodes before it.
+// The size of a node by those of the nodes before it: a `match` on the kind's number, as the requirements ask of measuring (12.12).
 #[tactic(auto, using(crate::proofs::Written::sizes_alone))]
 fn size_at(sizes: &[u32], shape: Shape) -> u32
     ensures { result ≡ held (size_over (λ c. get_or sizes.now c 0) shape) }

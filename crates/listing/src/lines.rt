@@ -4,7 +4,7 @@ ghost use Rattle.ground.specs.Decides.{Decides};
 ghost use Rattle.ground.specs.Lists.{All};
 ghost use Rattle.buffers.specs.Decimal.{decimal};
 ghost use Rattle.buffers.specs.Writing.{Wrote};
-ghost use Rattle.expressions.specs.Nodes.{kind_of, children};
+ghost use Rattle.expressions.specs.Nodes.{kind_of, places, children};
 ghost use Rattle.expressions.specs.Soundness.{Fits, Sound};
 ghost use Rattle.listing.specs.Listing.{spaced, plain_label, node_line, answer_line};
 ghost use Rattle.listing.specs.Answers.{listing_of};
@@ -15,7 +15,7 @@ use expressions::{ARITY_STEP, Shape};
 
 // ---- what a line says
 
-// A blank and the name of a kind.
+// A blank and the name of a kind: a `match` on its number, as the requirements ask of a listing (12.12).
 #[tactic(auto, unfolding(crate::specs::Listing::kind_name))]
 fn name(kind: u32) -> &'static [u8]
     ensures { result.now ≡ name_bytes kind }
@@ -31,7 +31,7 @@ fn name(kind: u32) -> &'static [u8]
     }
 }
 
-// The number that the label shows, where the kind shows its label: of a symbol the symbol alone.
+// The number that the label shows, where the kind shows its label: of a symbol the symbol alone. On the kind's number too.
 fn label_number(kind: u32, label: u32) -> Option<u32>
     ensures { result ≡ number_in (kind_of kind) label }
 {
@@ -44,7 +44,7 @@ fn label_number(kind: u32, label: u32) -> Option<u32>
 
 // The places for children.
 fn places(shape: Shape) -> [u32; 3]
-    ensures { result ≡ Rattle.expressions.specs.Nodes.places shape }
+    ensures { result ≡ places shape }
 {
     [shape.first, shape.second, shape.third]
 }
@@ -66,6 +66,37 @@ fn children_length(shape: Shape) -> usize
     let places = places(shape);
     let children = places.iter().take(shape.child_count() as usize);
     children.map(|child| field_length(*child)).sum()
+}
+
+// How long the line of a node is.
+fn line_length(number: usize, shape: Shape) -> usize
+    requires few { number < 10000 }
+    requires fits { Fits number shape }
+    ensures { result ≡ length (node_line plain_label number shape) }
+{
+    let label = label_number(shape.kind, shape.label).map_or(0, field_length);
+    let head = buffers::digits(number as u64) + name(shape.kind).len() + label;
+    head + children_length(shape) + 1
+}
+
+// How long the listing is.
+fn listing_length(words: &[u32], count: usize, answer: usize) -> usize
+    requires { Sound words.now count answer }
+    ensures { result ≡ length (listing_of words.now count answer) }
+{
+    let mut total = 0;
+    for i in 0..count {
+        total += line_length(i, expressions::node_at(words, i).shape);
+    }
+    total + 8 + buffers::digits(answer as u64)
+}
+
+// Does the listing fit so many bytes? Where even the longest lines would, nothing is counted.
+pub fn fits_in(words: &[u32], count: usize, answer: usize, room: usize) -> bool
+    requires { Sound words.now count answer }
+    ensures { Decides (length (listing_of words.now count answer) ≤ room) result }
+{
+    LONGEST_LINE * count + LONGEST_ANSWER <= room || listing_length(words, count, answer) <= room
 }
 
 // ---- bytes
@@ -175,35 +206,4 @@ pub fn put_listing(words: &[u32], count: usize, answer: usize, out: &mut [u8]) -
     }
     page.answer(answer);
     page.at
-}
-
-// How long the line of a node is.
-fn line_length(number: usize, shape: Shape) -> usize
-    requires few { number < 10000 }
-    requires fits { Fits number shape }
-    ensures { result ≡ length (node_line plain_label number shape) }
-{
-    let label = label_number(shape.kind, shape.label).map_or(0, field_length);
-    let head = buffers::digits(number as u64) + name(shape.kind).len() + label;
-    head + children_length(shape) + 1
-}
-
-// How long the listing is.
-fn listing_length(words: &[u32], count: usize, answer: usize) -> usize
-    requires { Sound words.now count answer }
-    ensures { result ≡ length (listing_of words.now count answer) }
-{
-    let mut total = 0;
-    for i in 0..count {
-        total += line_length(i, expressions::node_at(words, i).shape);
-    }
-    total + 8 + buffers::digits(answer as u64)
-}
-
-// Does the listing fit so many bytes? Where even the longest lines would, nothing is counted.
-pub fn fits_in(words: &[u32], count: usize, answer: usize, room: usize) -> bool
-    requires { Sound words.now count answer }
-    ensures { Decides (length (listing_of words.now count answer) ≤ room) result }
-{
-    LONGEST_LINE * count + LONGEST_ANSWER <= room || listing_length(words, count, answer) <= room
 }
