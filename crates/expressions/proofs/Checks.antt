@@ -1,26 +1,32 @@
--- What the checks of one node come to: its open set from its children's words, the node itself, and the nodes one after the other.
-use Prim.Native.Nat.{ℕ, suc, ◌+◌, ◌*◌, ◌^◌, ◌%◌, ◌<◌, ◌≤◌}
+-- What the checks of one node come to: its open set from those of its children, the node itself, and the nodes one after the other.
+use Prim.Native.Nat.{ℕ, ◌/◌, ◌^◌, ◌%◌, ◌<◌, ◌≤◌}
 use native.Mathlib.Omega.{arith}
+use native.Mathlib.Nat.{zero-add}
 use mathlib.Core.Path.{◌≡◌, refl, sym, ◌∙◌, ap}
-use mathlib.Core.Bool.{true, false}
+use mathlib.Core.Bool.{Bool, true, false}
 use mathlib.Core.List.{List}
 use lib.Dec.{eqb}
-use lib.ListN.{length}
+use lib.ListN.{length, take}
+use lib.Seq.{get_or-take, length-take-le}
+use Rattle.std.specs.Bool.{MatchBool}
+use Rattle.std.specs.List.{AllWithin, HoldsAt, range_with_len}
+use Rattle.std.proofs.lemmas.List.FromFn.{length-range_with_len, get_or-range_with_len}
 use Rattle.sets.specs.Members.{has, union, without, state_width}
 use Rattle.ground.specs.Decides.{Decides}
-use Rattle.ground.specs.Lists.{All}
 use Rattle.automaton.specs.Refusals.{refusal, no_refusal}
 use Rattle.expressions.specs.declared.Shape.{Shape}
 use Rattle.expressions.specs.declared.Node.{Node}
-use Rattle.expressions.specs.Nodes.{node_at, children}
-use Rattle.expressions.specs.Words.{node_width, read_node, table_of, put_node}
+use Rattle.expressions.specs.Nodes.{Table, no_node, node_at, children}
+use Rattle.expressions.specs.Words.{node_width, table_of, put_node}
 use Rattle.expressions.specs.Soundness.{Fits, cat_opens, opens_in, completed, SoundNode, SoundNodes}
 use Rattle.expressions.specs.Making.{Room, Makes}
-use Rattle.ground.proofs.Deciding.{decides-no, decides-as, decides_eq}
+use Rattle.expressions.specs.Inside.{nodes_of}
+use Rattle.ground.proofs.Deciding.{decides-no, decides-yes, decides-as, decides_eq}
 use Rattle.ground.proofs.Lists.{all_map}
 use Rattle.sets.proofs.Membership.{has-cut, union-cut-right, without-cut}
-use Rattle.expressions.proofs.Words.{length-table, table_at, table_more, take-table}
-use Rattle.expressions.proofs.Soundness.{opens-same, sound_none, sound-snoc}
+use Rattle.expressions.proofs.Words.{table_at, node-whole}
+use Rattle.expressions.proofs.Chunks.{whole, node-chunk}
+use Rattle.expressions.proofs.Soundness.{opens-same}
 
 -- ---- the open set
 
@@ -36,67 +42,56 @@ pub cat-lacks : (q left right : ℕ) → q < state_width → has (left % 2 ^ sta
 unfolding cat_opens
 cat-lacks q left right h e = let t : has left q ≡ false = sym (has-cut state_width left q h) ∙ e in rw t
 
--- the children of a whole node are whole
-pub children-whole : (words : List ℕ) (number : ℕ) (shape : Shape) → Fits number shape → node_width * number ≤ length words
-    → All (λ c. node_width * suc c ≤ length words) (children shape)
-children-whole words number shape f h = all_map (children shape) (λ c l. omega arith) f.earlier
-
--- the open set by the words is that by the table
-pub opens-words : (words : List ℕ) (count : ℕ) (shape : Shape) → Fits count shape
-    → opens_in (λ c. (read_node words c).opens) shape ≡ opens_in (λ c. (node_at (table_of words count) c).opens) shape
-opens-words words count shape f =
-    opens-same (λ c. (read_node words c).opens) (λ c. (node_at (table_of words count) c).opens) shape
-    (all_map (children shape) (λ c l. sym (ap (λ (n : Node). n.opens) (table_at words count c l))) f.earlier)
-
--- the node that is made, by the words
-pub completed-words : (words : List ℕ) (count : ℕ) (shape : Shape) → Fits count shape
-    → record { shape = shape; opens = opens_in (λ c. (read_node words c).opens) shape } ≡ completed (table_of words count) shape
+-- the node that is made, by the nodes that the words hold whole
+pub completed-whole : (words : List ℕ) (count : ℕ) (shape : Shape) → Fits count shape → count ≤ length words / node_width
+    → record { shape = shape; opens = opens_in (λ c. (node_at (nodes_of (whole words)) c).opens) shape } ≡ completed (table_of words count) shape
 unfolding completed
-completed-words words count shape f = λ x. record { shape = shape; opens = opens-words words count shape f x }
+completed-whole words count shape f h = λ x. record { shape = shape; opens = same x }
+  where
+    same : opens_in (λ c. (node_at (nodes_of (whole words)) c).opens) shape ≡ opens_in (λ c. (node_at (table_of words count) c).opens) shape
+    same =
+        opens-same (λ c. (node_at (nodes_of (whole words)) c).opens) (λ c. (node_at (table_of words count) c).opens) shape
+        (all_map (children shape)
+        (λ c l. ap (λ (n : Node). n.opens) (node-chunk words c ∙ node-whole words c (omega arith) ∙ sym (table_at words count c l))) f.earlier)
 
--- ---- one node of the words
+-- ---- one node of a table
 
-module _ (words : List ℕ) (i : ℕ) where
-  node-fits : SoundNode (table_of words i) (read_node words i) → Fits i (read_node words i).shape
-  node-fits s = rw (length-table words i) at s.fits
+module _ (table : Table) (i : ℕ) (h : i < length table) where
+  node_fits : SoundNode (take i table) (node_at table i) → Fits i (node_at table i).shape
+  node_fits s = rw (length-take-le i table (omega arith)) at s.fits
 
-  node_opens : SoundNode (table_of words i) (read_node words i) → (read_node words i).opens ≡ opens_in (λ c. (read_node words c).opens) (read_node words i).shape
-  unfolding completed
-  node_opens s = ap (λ (n : Node). n.opens) s.right ∙ sym (opens-words words i (read_node words i).shape (node-fits s))
-
-  node-sound : Fits i (read_node words i).shape → (read_node words i).opens ≡ opens_in (λ c. (read_node words c).opens) (read_node words i).shape
-      → SoundNode (table_of words i) (read_node words i)
-  node-sound f e =
-      record {
-        fits = rw (length-table words i) f;
-        right = (λ x. record { shape = (read_node words i).shape; opens = e x }) ∙ completed-words words i (read_node words i).shape f;
-      }
+  -- the open set by the nodes before it is that by the table
+  opens-earlier : Fits i (node_at table i).shape
+      → opens_in (λ c. (node_at table c).opens) (node_at table i).shape ≡ opens_in (λ c. (node_at (take i table) c).opens) (node_at table i).shape
+  opens-earlier f =
+      opens-same (λ c. (node_at table c).opens) (λ c. (node_at (take i table) c).opens) (node_at table i).shape
+      (all_map (children (node_at table i).shape) (λ c l. sym (ap (λ (n : Node). n.opens) (get_or-take i table c no_node l))) f.earlier)
 
   -- a node whose shape does not fit is not sound; one whose shape fits is sound exactly when its open word is right
-  pub node-unfit : (Fits i (read_node words i).shape → ⊥) → Decides (SoundNode (table_of words i) (read_node words i)) false
-  node-unfit n = decides-no (λ s. n (node-fits s))
+  pub node-unfit : (Fits i (node_at table i).shape → ⊥) → Decides (SoundNode (take i table) (node_at table i)) false
+  node-unfit n = decides-no (λ s. n (node_fits s))
 
-  pub node-decided : Fits i (read_node words i).shape → {opens : ℕ} → opens ≡ opens_in (λ c. (read_node words c).opens) (read_node words i).shape
-      → Decides (SoundNode (table_of words i) (read_node words i)) (eqb (read_node words i).opens opens)
-  node-decided f e = decides-as (decides_eq _ _) (λ h. node-sound f (h ∙ e)) (λ s. node_opens s ∙ sym e)
+  pub node-decided : Fits i (node_at table i).shape → {opens : ℕ} → opens ≡ opens_in (λ c. (node_at table c).opens) (node_at table i).shape
+      → Decides (SoundNode (take i table) (node_at table i)) (eqb (node_at table i).opens opens)
+  unfolding completed
+  node-decided f e =
+      let d = e ∙ opens-earlier f in
+      decides-as (decides_eq _ _)
+      (λ k. record { fits = rw (length-take-le i table (omega arith)) f; right = λ x. record { shape = (node_at table i).shape; opens = (k ∙ d) x } })
+      (λ s. ap (λ (n : Node). n.opens) s.right ∙ sym d)
 
--- ---- the nodes of the words, one after the other
+-- ---- the nodes of a table, one after the other
 
--- a node of a sound table is sound over those before it
-pub sound-node : (words : List ℕ) (count i : ℕ) → SoundNodes (table_of words count) → i < count → SoundNode (table_of words i) (read_node words i)
+pub sound-decided : (table : Table) {n : ℕ} → n ≡ length table → (r : Bool)
+    → MatchBool r (AllWithin (λ i. i < n → SoundNode (take i table) (node_at table i)) (range_with_len 0 n) 0 (length (range_with_len 0 n)))
+    ((k : ℕ) × (k < length (range_with_len 0 n)) × HoldsAt (λ i. i < n → SoundNode (take i table) (node_at table i) → ⊥) (range_with_len 0 n) k)
+    → Decides (SoundNodes table) r
 unfolding SoundNodes
-sound-node words count i s h =
-    rw (take-table words count i (omega arith), table_at words count i h) at (s i (omega (arith, length-table words count)))
-
-pub sound-fits : (words : List ℕ) (count i : ℕ) → SoundNodes (table_of words count) → i < count → Fits i (read_node words i).shape
-sound-fits words count i s h = rw (length-table words i) at (sound-node words count i s h).fits
-
-pub sound_more : (words : List ℕ) (i : ℕ) → SoundNodes (table_of words i) → SoundNode (table_of words i) (read_node words i) → SoundNodes (table_of words (i + 1))
-sound_more words i s k = rw (table_more words i) (sound-snoc (table_of words i) (read_node words i) s k)
-
-pub sound-start : (words : List ℕ) → SoundNodes (table_of words 0)
-unfolding table_of
-sound-start words = sound_none
+sound-decided table {n} e true h =
+    decides-yes (λ i l. (rw (get_or-range_with_len 0 n i 0 (omega arith), zero-add i) at (h i 0 (omega arith) (omega (arith, length-range_with_len 0 n)))) (omega arith))
+sound-decided table {n} e false h =
+    let l : h.0 < n = omega (arith, h.1, length-range_with_len 0 n) in
+    decides-no (λ s. (rw (get_or-range_with_len 0 n h.0 0 l, zero-add h.0) at (h.2 0)) l (s h.0 (omega arith)))
 
 -- ---- making a node: each outcome
 

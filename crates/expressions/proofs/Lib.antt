@@ -1,6 +1,7 @@
 -- nodes, and the expressions that they unfold to
 pub mod KindLaws
 pub mod Words
+pub mod Chunks
 pub mod Unfolding
 pub mod Soundness
 pub mod OpenSets

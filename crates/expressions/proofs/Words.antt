@@ -1,12 +1,12 @@
 -- The laws of nodes as words: a node is read where it was written, and a table from the words that hold it.
-use Prim.Native.Nat.{ℕ, zero, suc, ◌+◌, ◌*◌, ◌-◌, ◌<◌, ◌≤◌}
+use Prim.Native.Nat.{ℕ, zero, suc, ◌+◌, ◌*◌, ◌<◌, ◌≤◌}
 use native.Mathlib.Omega.{arith}
 use native.Mathlib.Decide.{dec_lt}
 use native.Mathlib.Nat.{add-zero}
 use mathlib.Core.Path.{◌≡◌, refl, sym, ◌∙◌, ap, ap₂}
 use mathlib.Core.List.{List, [], ◌∷◌, ◌++◌, append_assoc, append-nil}
-use lib.ListN.{length, get_or, set, take, drop, drop_of_length-le, length-append, length-drop, get_or-append}
-use lib.Seq.{sets-eq, get_or-append_seam, get_or-drop, get_or-take, ext_get_or, take_at, drop_at, drop-drop, length-take-le, take_all, take-add}
+use lib.ListN.{length, get_or, take, drop, length-append, length-drop, get_or-append}
+use lib.Seq.{get_or-append_seam, get_or-drop, get_or-take, ext_get_or, take_at, drop_at, drop-drop, length-take-le, take-add}
 use borrow.Author.Tests.{le-leb, lt-leb}
 use Rattle.expressions.specs.declared.Node.{Node}
 use Rattle.expressions.specs.Nodes.{Table, no_node, node_at}
@@ -214,15 +214,6 @@ words-table words (suc count) h =
     ∙ ap₂ ◌++◌ (words-table words count (omega arith)) (front-words rest k)
     ∙ sym (ap (λ (m : ℕ). take m words) e ∙ take-add (node_width * count) node_width words)
 
--- six stores one after the other write a node over the words of one
-pub six-stores : (words : List ℕ) (node : Node) → length words ≡ node_width
-    → set (set (set (set (set (set words 0 node.shape.kind) 1 node.shape.label) 2 node.shape.first) 3 node.shape.second) 4 node.shape.third) 5 node.opens
-    ≡ encode node
-unfolding encode
-six-stores words node h =
-    let e : drop node_width words ≡ [] = drop_of_length-le words {i = node_width} (omega arith) in
-    sets-eq (encode node) words 0 (omega arith) ∙ rw e (append-nil (encode node))
-
 -- a node put over the words of one, in the place of those
 pub put-part : (words : List ℕ) (i : ℕ) (node : Node) {k : ℕ} {last : List ℕ} → k ≡ node_width → last ≡ encode node
     → take (node_width * i) words ++ (last ++ drop k (drop (node_width * i) words)) ≡ put_node words i node
@@ -230,7 +221,3 @@ unfolding put_node
 put-part words i node w e =
     let m : node_width * i + node_width ≡ node_width * suc i = omega arith in
     rw (w, e, drop-drop node_width (node_width * i) words, m)
-
--- the words from a node's place on
-pub rest_part : (words : List ℕ) (at : ℕ) → take (length words - at) (drop at words) ≡ drop at words
-rest_part words at = take_all (length words - at) (drop at words) (omega (arith, length-drop at words))

@@ -3,32 +3,27 @@ use Prim.Native.Nat.{ℕ, zero, suc, ◌+◌, ◌<◌, ◌≤◌}
 use native.Mathlib.Omega.{arith}
 use native.Mathlib.Numerals.{add-one}
 use mathlib.Core.Path.{◌≡◌, refl, sym, ◌∙◌, ap}
-use mathlib.Core.List.{List, [], ◌∷◌, ◌++◌, map, map-append}
-use lib.ListN.{length, get_or, set, take, drop, length-map, get_or-append}
-use lib.Seq.{set_at, drop-cons, append_snoc}
+use mathlib.Core.List.{List, [], ◌∷◌, ◌++◌, map, map-append, append-nil}
+use lib.ListN.{length, get_or, set, take, drop, drop_of_length-le, length-map, get_or-append}
+use lib.Seq.{set_at, take-suc, take_all, length-take-le, drop-cons, append_snoc}
 use Rattle.ground.specs.Lists.{All}
 use Rattle.meaning.specs.Expressions.{Expr, emptyᴱ}
 use Rattle.expressions.specs.declared.Shape.{Shape}
 use Rattle.expressions.specs.declared.Node.{Node}
-use Rattle.expressions.specs.Nodes.{Kind, emptyᴷ, holeᴷ, symbolᴷ, altᴷ, catᴷ, iterᴷ, otherᴷ, kind_of, Table, arity_of, children_of, child_count, children}
-use Rattle.expressions.specs.Words.{read_node, table_of}
+use Rattle.expressions.specs.Nodes.{Kind, emptyᴷ, holeᴷ, symbolᴷ, altᴷ, catᴷ, iterᴷ, otherᴷ, kind_of, Table, no_node, node_at, arity_of, children_of, child_count, children}
+use Rattle.expressions.specs.Words.{table_of}
 use Rattle.expressions.specs.Unfolding.{exprs_of, built_by, built_of, built, unfolded, expr_at}
-use Rattle.expressions.specs.Soundness.{Fits, Sound}
+use Rattle.expressions.specs.Soundness.{SoundNodes, Sound}
 use Rattle.expressions.specs.Sizes.{written_size, written_sizes, held, held_size, sizes_of}
 use Rattle.expressions.specs.Inside.{sum_all, size_over}
 use Rattle.expressions.specs.Answers.{Measures, measured}
 use Rattle.ground.proofs.Lists.{all_map, map_same}
-use Rattle.expressions.proofs.Words.{length-table, table_more}
+use Rattle.expressions.proofs.KindLaws.{none-count, other-count}
+use Rattle.expressions.proofs.Words.{length-table}
+use Rattle.expressions.proofs.Soundness.{fits-at}
 use Rattle.expressions.proofs.Unfolding.{length-unfolded, unfolded-snoc}
 
 -- ---- one node
-
--- holding, by a test
-pub held-under : {n m : ℕ} → n ≡ m → n < 4294967295 → n ≡ held m
-held-under e h = omega arith
-
-pub held-over : {n m : ℕ} → n ≡ m → 4294967295 ≤ n → 4294967295 ≡ held m
-held-over e h = omega arith
 
 -- a held sum of held numbers is the held sum
 pub held-sum : (f : ℕ → ℕ) (cs : List ℕ) (m : ℕ) → held (m + sum_all (map (λ c. held (f c)) cs)) ≡ held (m + sum_all (map f cs))
@@ -60,6 +55,19 @@ held-built g shape =
     ap held (size-built (kind_of shape.kind) shape.label shape.first shape.second shape.third g)
     ∙ sym (held-sum (λ c. written_size (g c)) (children shape) 1)
 
+-- a node with no children has size 1
+size-alone : (size : ℕ → ℕ) (shape : Shape) → child_count shape.kind shape.label ≡ 0 → held (size_over size shape) ≡ 1
+unfolding size_over children
+size-alone size shape e = rw e
+
+pub none-size : (size : ℕ → ℕ) (shape : Shape) → shape.kind < 2 → held (size_over size shape) ≡ 1
+none-size size shape h = size-alone size shape (none-count shape.kind shape.label h)
+
+pub other-size : (size : ℕ → ℕ) (shape : Shape) → 5 < shape.kind → held (size_over size shape) ≡ 1
+other-size size shape h = size-alone size shape (other-count shape.kind shape.label h)
+
+pub ruleset sizes_alone = (none-size, other-size)
+
 -- only the children's sizes count
 pub size_same : (f g : ℕ → ℕ) (shape : Shape) → All (λ c. f c ≡ g c) (children shape) → size_over f shape ≡ size_over g shape
 unfolding size_over
@@ -87,32 +95,39 @@ sizes-snoc table node = ap (map held_size) (unfolded-snoc table node) ∙ map-ap
 
 -- ---- the scratch words, as far as node i
 
-abbrev pub so_far : List ℕ → List ℕ → ℕ → List ℕ
-so_far words before i = sizes_of (table_of words i) ++ drop i before
+abbrev pub so_far : Table → List ℕ → ℕ → List ℕ
+so_far table before i = sizes_of (take i table) ++ drop i before
 
-pub so-far-none : (words before : List ℕ) → before ≡ so_far words before 0
-unfolding table_of sizes_of unfolded
-so-far-none words before = refl
+pub so-far-none : (table : Table) (before : List ℕ) → before ≡ so_far table before 0
+unfolding sizes_of unfolded
+so-far-none table before = refl
 
-module _ (words before : List ℕ) (i : ℕ) (fits : Fits i (read_node words i).shape) where
-  many : length (sizes_of (table_of words i)) ≡ i
-  many = length-sizes (table_of words i) ∙ length-table words i
+pub so-far-all : (table : Table) (before : List ℕ) → length before ≡ length table → so_far table before (length before) ≡ sizes_of table
+so-far-all table before e =
+    rw (take_all (length before) table (omega arith), drop_of_length-le before {i = length before} (omega arith)) (append-nil (sizes_of table))
 
-  new-size : held (size_over (λ c. get_or (so_far words before i) c 0) (read_node words i).shape) ≡ held_size (built (expr_at (table_of words i)) (read_node words i).shape)
+module _ (table : Table) (sound : SoundNodes table) (before : List ℕ) (i : ℕ) (h : i < length table) where
+  many : length (sizes_of (take i table)) ≡ i
+  many = length-sizes (take i table) ∙ length-take-le i table (omega arith)
+
+  next : take (i + 1) table ≡ take i table ++ (node_at table i ∷ [])
+  next = rw (add-one i) (take-suc table i no_node h)
+
+  new-size : held (size_over (λ c. get_or (so_far table before i) c 0) (node_at table i).shape) ≡ held_size (built (expr_at (take i table)) (node_at table i).shape)
   new-size =
       ap held
-      (size_same (λ c. get_or (so_far words before i) c 0) (λ c. held_size (expr_at (table_of words i) c)) (read_node words i).shape
-      (all_map (children (read_node words i).shape)
-      (λ c l. get_or-append (sizes_of (table_of words i)) (drop i before) 0 c (omega (arith, many)) ∙ sizes-at (table_of words i) c (omega (arith, length-table words i)))
-      fits.earlier))
-      ∙ sym (held-built (expr_at (table_of words i)) (read_node words i).shape)
+      (size_same (λ c. get_or (so_far table before i) c 0) (λ c. held_size (expr_at (take i table) c)) (node_at table i).shape
+      (all_map (children (node_at table i).shape)
+      (λ c l. get_or-append (sizes_of (take i table)) (drop i before) 0 c (omega (arith, many)) ∙ sizes-at (take i table) c (omega (arith, length-take-le i table (omega arith))))
+      (fits-at table sound i h).earlier))
+      ∙ sym (held-built (expr_at (take i table)) (node_at table i).shape)
 
   pub so_far_more : i < length before
-      → set (so_far words before i) i (held (size_over (λ c. get_or (so_far words before i) c 0) (read_node words i).shape)) ≡ so_far words before (i + 1)
-  so_far_more h =
-      rw (new-size, table_more words i, sizes-snoc (table_of words i) (read_node words i), add-one i, drop-cons before i 0 h)
-      (set_at (sizes_of (table_of words i)) (get_or before i 0) (drop (suc i) before) (held_size (built (expr_at (table_of words i)) (read_node words i).shape)) i many
-      ∙ sym (append_snoc (sizes_of (table_of words i)) _ (drop (suc i) before)))
+      → set (so_far table before i) i (held (size_over (λ c. get_or (so_far table before i) c 0) (node_at table i).shape)) ≡ so_far table before (i + 1)
+  so_far_more l =
+      rw (new-size, next, sizes-snoc (take i table) (node_at table i), add-one i, drop-cons before i 0 l)
+      (set_at (sizes_of (take i table)) (get_or before i 0) (drop (suc i) before) (held_size (built (expr_at (take i table)) (node_at table i).shape)) i many
+      ∙ sym (append_snoc (sizes_of (take i table)) _ (drop (suc i) before)))
 
 -- ---- measuring: each outcome
 
@@ -120,21 +135,19 @@ module _ (words : List ℕ) (count answer : ℕ) (before : List ℕ) where
   pub measures-unsound : (Sound words count answer → ⊥) → Measures words count answer before before (measured 8 0)
   measures-unsound n = record { unsound = λ _. (refl, refl); short = λ s. absurd (n s); done = λ s. absurd (n s) }
 
-  pub measures-short : Sound words count answer → length before < count → Measures words count answer before before (measured 6 0)
-  measures-short s h = record { unsound = λ n. absurd (n s); short = λ _ _. (refl, refl); done = λ _ l. absurd (omega arith) }
+  pub measures-short : Sound words count answer → length before < count → {after : List ℕ} → after ≡ before → Measures words count answer before after (measured 6 0)
+  measures-short s h e = record { unsound = λ n. absurd (n s); short = λ _ _. (refl, e); done = λ _ l. absurd (omega arith) }
 
-  pub measures-done : Sound words count answer → count ≤ length before → (after : List ℕ) → after ≡ so_far words before count
-      → Measures words count answer before after (measured 0 (get_or after answer 0))
-  measures-done s h after e =
+  pub measures-done : Sound words count answer → count ≤ length before → {sizes after : List ℕ} → sizes ≡ sizes_of (table_of words count) → after ≡ sizes ++ drop count before
+      → Measures words count answer before after (measured 0 (get_or sizes answer 0))
+  measures-done s h {sizes} e d =
       record {
         unsound = λ n. absurd (n s);
         short = λ _ l. absurd (omega arith);
-        done = λ _ _. (ap (measured 0) answered, e);
+        done = λ _ _. (ap (measured 0) answered, d ∙ rw e);
       }
     where
-      answered : get_or after answer 0 ≡ held_size (expr_at (table_of words count) answer)
+      answered : get_or sizes answer 0 ≡ held_size (expr_at (table_of words count) answer)
       answered =
-          let l : answer < length (table_of words count) = omega (arith, length-table words count, s.within) in
-          ap (λ (xs : List ℕ). get_or xs answer 0) e
-          ∙ get_or-append (sizes_of (table_of words count)) (drop count before) 0 answer (omega (arith, length-sizes (table_of words count)))
-          ∙ sizes-at (table_of words count) answer l
+          let within = s.within in
+          rw e (sizes-at (table_of words count) answer (omega (arith, length-table words count)))

@@ -1,55 +1,47 @@
 // The words of a node: the only code that knows which is which.
-ghost use Rattle.std.specs.Prelude.{◌≡◌, suc, ◌*◌, ◌≤◌, length};
-ghost use Rattle.expressions.specs.Words.{node_width, encode, decode, read_node, put_node};
+ghost use Rattle.std.specs.Prelude.{◌≡◌};
+ghost use Rattle.expressions.specs.Nodes.{node_at};
+ghost use Rattle.expressions.specs.Words.{encode, decode};
+ghost use Rattle.expressions.specs.Inside.{nodes_of};
 
 use crate::{NODE_WIDTH, Node, Shape};
 
-// The node whose words these begin with.
-fn first_node(words: &[u32]) -> Node
-    requires { node_width ≤ length words.now }
-    ensures { result ≡ decode words.now }
-{
-    Node {
-        shape: Shape {
-            kind: words[0],
-            label: words[1],
-            first: words[2],
-            second: words[3],
-            third: words[4],
-        },
-        opens: words[5],
+impl Node {
+    // The node of these words.
+    #[tactic(auto, unfolding(crate::specs::Words::decode))]
+    pub(crate) fn of_words(words: &[u32; NODE_WIDTH]) -> Node
+        ensures { result ≡ decode words.now }
+    {
+        let [kind, label, first, second, third, opens] = *words;
+        let shape = Shape {
+            kind,
+            label,
+            first,
+            second,
+            third,
+        };
+        Node { shape, opens }
+    }
+
+    // The words of this node.
+    #[tactic(auto, unfolding(crate::specs::Words::encode))]
+    pub(crate) fn words(self) -> [u32; NODE_WIDTH]
+        ensures { result ≡ encode self }
+    {
+        let Shape {
+            kind,
+            label,
+            first,
+            second,
+            third,
+        } = self.shape;
+        [kind, label, first, second, third, self.opens]
     }
 }
 
-// Node i.
-pub fn node_at(words: &[u32], i: usize) -> Node
-    requires { node_width * suc i ≤ length words.now }
-    ensures { result ≡ read_node words.now i }
+// Node i of a table's nodes, each as its words; the empty node where there are not so many.
+pub fn nth(nodes: &[[u32; NODE_WIDTH]], i: usize) -> Node
+    ensures { result ≡ node_at (nodes_of nodes.now) i }
 {
-    let at = NODE_WIDTH * i;
-    first_node(&words[at..])
-}
-
-// A node, written over the words of one.
-fn put_over(words: &mut [u32], node: Node)
-    requires { length words.old ≡ node_width }
-    ensures { words.new ≡ encode node }
-{
-    let shape = node.shape;
-    words[0] = shape.kind;
-    words[1] = shape.label;
-    words[2] = shape.first;
-    words[3] = shape.second;
-    words[4] = shape.third;
-    words[5] = node.opens;
-}
-
-// Node i written.
-pub fn put(words: &mut [u32], i: usize, node: Node)
-    requires { node_width * suc i ≤ length words.old }
-    ensures { words.new ≡ put_node words.old i node }
-{
-    let at = NODE_WIDTH * i;
-    let end = at + NODE_WIDTH;
-    put_over(&mut words[at..end], node);
+    nodes.get(i).map_or(Node::EMPTY, Node::of_words)
 }

@@ -1,9 +1,11 @@
 // Expressions: the node table, checked, measured and made.
 #![tactic(auto)]
 
-ghost use Rattle.std.specs.Prelude.{◌≡◌};
-ghost use Rattle.expressions.specs.Nodes.{child_count, shape_of};
-ghost use Rattle.expressions.specs.Words.{node_in};
+ghost use Rattle.std.specs.Prelude.{◌≡◌, MatchOption};
+ghost use Rattle.expressions.specs.Nodes.{child_count, places, shape_of};
+ghost use Rattle.expressions.specs.Words.{node_in, table_of};
+ghost use Rattle.expressions.specs.Soundness.{Sound};
+ghost use Rattle.expressions.specs.Inside.{nodes_of};
 ghost use Rattle.expressions.specs.Making.{Makes};
 ghost use Rattle.automaton.specs.Refusals.{refusal_of};
 ghost use Rattle.expressions.specs.Answers.{SoundAnswer, Measures, measured_of};
@@ -25,7 +27,7 @@ pub const MOST_NODES: usize = 4096;
 
 // What a node says: its kind, its label and three places for children.
 #[repr(C)]
-#[derive(Clone, Copy)]
+#[derive(Clone, Copy, PartialEq, Eq, Debug)]
 pub struct Shape {
     pub kind: u32,
     pub label: u32,
@@ -36,7 +38,7 @@ pub struct Shape {
 
 // A node: its shape, and the open set that follows from those of its children.
 #[repr(C)]
-#[derive(Clone, Copy)]
+#[derive(Clone, Copy, PartialEq, Eq, Debug)]
 pub struct Node {
     pub shape: Shape,
     pub opens: u32,
@@ -61,34 +63,39 @@ impl From<Result<u32, Refused>> for Measured {
     }
 }
 
-// The node with every number 0.
-const EMPTY: Node = Node {
-    shape: Shape {
-        kind: 0,
-        label: 0,
-        first: 0,
-        second: 0,
-        third: 0,
-    },
-    opens: 0,
-};
+impl Node {
+    // The node with every number 0.
+    const EMPTY: Node = Node {
+        shape: Shape {
+            kind: 0,
+            label: 0,
+            first: 0,
+            second: 0,
+            third: 0,
+        },
+        opens: 0,
+    };
+}
 
 impl Shape {
-    // How many of the places are used.
+    // How many of the places are used, by the kind's number.
+    #[tactic(auto, using(crate::proofs::KindLaws::counts), unfolding(crate::specs::Nodes::child_count))]
     pub fn child_count(self) -> u32
         ensures { result ≡ child_count self.kind self.label }
     {
-        let kind = self.kind;
-        let label = self.label;
-        match kind {
-            0 => 0,
-            1 => 0,
-            2 => label / ARITY_STEP,
-            3 => 2,
-            4 => 2,
+        match self.kind {
+            2 => self.label / ARITY_STEP,
+            3 | 4 => 2,
             5 => 1,
             _ => 0,
         }
+    }
+
+    // The places for children, used or not.
+    fn places(self) -> [u32; 3]
+        ensures { result ≡ places self }
+    {
+        [self.first, self.second, self.third]
     }
 }
 
@@ -96,26 +103,28 @@ impl Shape {
 pub fn node_at(words: &[u32], i: usize) -> Node
     ensures { result ≡ node_in words.now i }
 {
-    if i < words.len() / NODE_WIDTH {
-        return layout::node_at(words, i);
+    let (nodes, _) = words.as_chunks();
+    layout::nth(nodes, i)
+}
+
+// The nodes, as words, where they are a sound table of so many with this answer.
+fn sound_nodes(words: &[u32], count: usize, answer: usize) -> Option<&[[u32; NODE_WIDTH]]>
+    ensures { MatchOption result (Sound words.now count answer → ⊥) (λ nodes. Sound words.now count answer × (nodes_of nodes.now ≡ table_of words.now count)) }
+{
+    let (nodes, _) = words.as_chunks();
+    let nodes = nodes.get(..count)?;
+    if count <= MOST_NODES && answer < count && nodes::all_sound(nodes) {
+        Some(nodes)
+    } else {
+        None
     }
-    EMPTY
 }
 
 // Are the words a sound table of so many nodes, with this answer?
 pub fn is_sound(words: &[u32], count: usize, answer: usize) -> bool
     ensures { SoundAnswer words.now count answer result }
 {
-    if MOST_NODES < count {
-        return false;
-    }
-    if words.len() < NODE_WIDTH * count {
-        return false;
-    }
-    if count <= answer {
-        return false;
-    }
-    nodes::all_sound(words, count)
+    sound_nodes(words, count, answer).is_some()
 }
 
 // The node of this kind, label and children, as the next node of the table. Its open set is derived from the children's. Refused, and nothing changed: 8 where the kind, the label or a child does not suit, then 6 where there is no room.
@@ -143,23 +152,34 @@ pub fn make(
     if MOST_NODES <= count {
         return Err(Refused::Short);
     }
-    if words.len() < NODE_WIDTH * count + NODE_WIDTH {
+    let Some((earlier, rest)) = words.split_at_mut_checked(NODE_WIDTH * count) else {
         return Err(Refused::Short);
-    }
-    nodes::put_made(words, count, shape);
+    };
+    let Some(place) = rest.first_chunk_mut() else {
+        return Err(Refused::Short);
+    };
+    let (earlier, _) = earlier.as_chunks();
+    let opens = nodes::open_of(earlier, shape);
+    *place = Node { shape, opens }.words();
     Ok(())
 }
 
 // The written-out sizes of the nodes, into the scratch words, and the answer's.
-pub fn measure(words: &[u32], count: usize, answer: usize, scratch: &mut [u32]) -> Result<u32, Refused>
+pub fn measure(
+    words: &[u32],
+    count: usize,
+    answer: usize,
+    scratch: &mut [u32],
+) -> Result<u32, Refused>
     ensures { Measures words.now count answer scratch.old scratch.new (measured_of result) }
 {
-    if !is_sound(words, count, answer) {
+    let Some(nodes) = sound_nodes(words, count, answer) else {
         return Err(Refused::Unsound);
-    }
-    if scratch.len() < count {
+    };
+    // The rest has a name, since a proof knows only of what is named that it stays as it was.
+    let Some((sizes, _rest)) = scratch.split_at_mut_checked(count) else {
         return Err(Refused::Short);
-    }
-    sizes::fill(words, count, scratch);
-    Ok(scratch[answer])
+    };
+    sizes::fill(nodes, sizes);
+    Ok(sizes[answer])
 }

@@ -1,24 +1,24 @@
 -- The laws of the listing: a line is its parts one after the other, and the listing its lines.
-use Prim.Native.Nat.{ℕ, zero, suc, ◌+◌, ◌<◌, ◌≤◌}
+use Prim.Native.Nat.{ℕ, suc, ◌+◌, ◌<◌, ◌≤◌}
 use native.Mathlib.Omega.{arith}
 use native.Mathlib.Nat.{add-zero, zero-add}
 use mathlib.Core.Path.{◌≡◌, refl, sym, ◌∙◌, ap}
-use mathlib.Core.Bool.{Bool, true, false, cond}
-use mathlib.Core.List.{List, [], ◌∷◌, ◌++◌, map, append-nil, append_assoc}
-use lib.Dec.{ltb}
-use lib.ListN.{length, take, drop, length-append, take-append-drop}
+use mathlib.Core.List.{List, [], ◌∷◌, ◌++◌, map, map-append, append-nil, append_assoc}
+use lib.ListN.{length, drop, length-append, length-take, take-append-drop}
 use lib.Seq.{sets, sets-eq}
-use borrow.Author.Tests.{lt-ltb}
+use Rattle.std.specs.List.{sum_by}
+use Rattle.std.specs.Prelude.{Option, Some, None, MatchOption}
+use Rattle.std.proofs.lemmas.List.Sums.{sum_by-cons}
 use Rattle.buffers.specs.Decimal.{decimal}
 use Rattle.buffers.specs.Writing.{Wrote}
 use Rattle.expressions.specs.declared.Shape.{Shape}
-use Rattle.expressions.specs.Nodes.{Kind, emptyᴷ, holeᴷ, symbolᴷ, altᴷ, catᴷ, iterᴷ, otherᴷ, kind_of, Table, child_count, children}
+use Rattle.expressions.specs.Nodes.{Kind, emptyᴷ, holeᴷ, symbolᴷ, altᴷ, catᴷ, iterᴷ, otherᴷ, kind_of, Table, symbol_of, children}
 use Rattle.expressions.specs.Words.{read_node, table_of}
 use Rattle.expressions.specs.Soundness.{Sound}
 use Rattle.expressions.proofs.Words.{length-table, table_more, take-table}
-use Rattle.listing.specs.Listing.{name_of, kind_name, label_shown, label_fields, spaced, line, label_number, plain_label, head_fields, node_line, node_lines, answer_line, listing}
+use Rattle.listing.specs.Listing.{name_of, kind_name, label_shown, label_fields, spaced, line, number_shown, label_number, plain_label, head_fields, node_line, node_lines, answer_line, listing}
 use Rattle.listing.specs.Answers.{Lists, listed, listing_of}
-use Rattle.listing.specs.Inside.{shows_label, field_bytes, name_bytes, head_bytes, children_bytes}
+use Rattle.listing.specs.Inside.{number_in, label_bytes, name_bytes}
 
 -- ---- the fields of a line
 
@@ -28,62 +28,57 @@ spaced-append [] ys = refl
 spaced-append (x ∷ xs) ys = ap (λ (l : List ℕ). 32 ∷ l) (ap (λ (l : List ℕ). x ++ l) (spaced-append xs ys) ∙ sym (append_assoc x (spaced xs) (spaced ys)))
 
 -- the label's field, where the kind shows it
-label-shown : (kind : Kind) (label : List ℕ) → label_shown kind label ≡ cond (shows_label kind) (label ∷ []) []
-label-shown emptyᴷ label = refl
-label-shown holeᴷ label = refl
-label-shown symbolᴷ label = refl
-label-shown altᴷ label = refl
-label-shown catᴷ label = refl
-label-shown iterᴷ label = refl
-label-shown otherᴷ label = refl
+label-bytes : (kind : Kind) (label : ℕ) → spaced (label_shown kind (decimal (number_shown kind label))) ≡ label_bytes (number_in kind label)
+unfolding spaced
+label-bytes emptyᴷ label = refl
+label-bytes holeᴷ label = append-nil (32 ∷ decimal label)
+label-bytes symbolᴷ label = append-nil (32 ∷ decimal (symbol_of label))
+label-bytes altᴷ label = refl
+label-bytes catᴷ label = append-nil (32 ∷ decimal label)
+label-bytes iterᴷ label = append-nil (32 ∷ decimal label)
+label-bytes otherᴷ label = refl
 
--- the name, and the label where it is shown
-head_bytes_lem : (kind label : ℕ) → spaced (head_fields kind (decimal (label_number kind label))) ≡ head_bytes kind label
-unfolding head_fields kind_name label_fields head_bytes field_bytes spaced
-head_bytes_lem kind label = ap (λ (fields : List (List ℕ)). spaced (name_of (kind_of kind) ∷ fields)) (label-shown (kind_of kind) d) ∙ go (name_of (kind_of kind)) (shows_label (kind_of kind))
-  where
-    d : List ℕ
-    d = decimal (label_number kind label)
+pub label-size : (shown other : Option ℕ) {n : ℕ} → shown ≡ other → MatchOption shown (n ≡ 0) (λ x. n ≡ length (32 ∷ decimal x)) → n ≡ length (label_bytes other)
+label-size None other e h = rw (← e) h
+label-size (Some x) other e h = rw (← e) h
 
-    go : (name : List ℕ) (shown : Bool) → spaced (name ∷ cond shown (d ∷ []) []) ≡ (32 ∷ name) ++ cond shown (32 ∷ d) []
-    go name true = ap (λ (l : List ℕ). 32 ∷ (name ++ (32 ∷ l))) (append-nil d)
-    go name false = refl
+-- a node has three children at most
+pub children-few : (shape : Shape) → length (children shape) ≤ 3
+unfolding children
+children-few shape = simp length-take (omega arith)
 
-pub head-size : (kind label : ℕ) {shown : Bool} {n : ℕ} → shown ≡ shows_label (kind_of kind) → n ≡ label_number kind label
-    → length (head_bytes kind label) ≡ length (name_bytes kind) + length (field_bytes shown n)
-unfolding head_bytes
-head-size kind label e d = rw (e, d) (length-append (name_bytes kind) (field_bytes (shows_label (kind_of kind)) (label_number kind label)))
+-- one child more
+pub fields-more : {A : Type 0} (v : A → ℕ) (xs : List A) (x : A) → spaced (map decimal (map v (xs ++ (x ∷ [])))) ≡ spaced (map decimal (map v xs)) ++ (32 ∷ decimal (v x))
+unfolding spaced
+fields-more v xs x =
+    rw (map-append v xs (x ∷ []), map-append decimal (map v xs) (v x ∷ []), spaced-append (map decimal (map v xs)) (decimal (v x) ∷ []), append-nil (decimal (v x)))
 
--- the children that are used
-children-bytes : (shape : Shape) → spaced (map decimal (children shape)) ≡ children_bytes shape
-unfolding children children_bytes spaced field_bytes
-children-bytes shape = go (child_count shape.kind shape.label) shape.first shape.second shape.third
-  where
-    go : (n a b c : ℕ) → spaced (map decimal (take n (a ∷ b ∷ c ∷ []))) ≡ field_bytes (ltb 0 n) a ++ (field_bytes (ltb 1 n) b ++ field_bytes (ltb 2 n) c)
-    go zero a b c = refl
-    go (suc zero) a b c = refl
-    go (suc (suc zero)) a b c = refl
-    go (suc (suc (suc n))) a b c =
-        rw (lt-ltb 0 (suc (suc (suc n))) (omega arith), lt-ltb 1 (suc (suc (suc n))) (omega arith), lt-ltb 2 (suc (suc (suc n))) (omega arith))
-        (ap (λ (l : List ℕ). 32 ∷ (decimal a ++ (32 ∷ (decimal b ++ (32 ∷ l))))) (ap (λ (l : List ℕ). decimal c ++ l) (rest n) ∙ append-nil (decimal c)))
-      where
-        rest : (n : ℕ) → spaced (map decimal (take n [])) ≡ []
-        rest zero = refl
-        rest (suc n) = refl
+-- the fields summed
+pub fields-sum : (cs : List ℕ) → sum_by (λ n. length (32 ∷ decimal n)) cs ≡ length (spaced (map decimal cs))
+unfolding spaced
+fields-sum [] = refl
+fields-sum (c ∷ cs) = omega (arith, sum_by-cons (λ n. length (32 ∷ decimal n)) c cs, fields-sum cs, length-append (decimal c) (spaced (map decimal cs)))
 
 -- ---- a line
 
+regroup : (n a b c d : List ℕ) → n ++ ((a ++ (b ++ c)) ++ d) ≡ n ++ (a ++ (b ++ (c ++ d)))
+regroup n a b c d = simp append_assoc
+
 pub line-parts : (number : ℕ) (shape : Shape)
-    → node_line plain_label number shape ≡ decimal number ++ (head_bytes shape.kind shape.label ++ (children_bytes shape ++ (10 ∷ [])))
-unfolding node_line line plain_label
+    → node_line plain_label number shape
+    ≡ decimal number ++ (name_bytes shape.kind ++ (label_bytes (number_in (kind_of shape.kind) shape.label) ++ (spaced (map decimal (children shape)) ++ (10 ∷ []))))
+unfolding node_line line plain_label head_fields label_fields label_number kind_name spaced
 line-parts number shape =
-    let head = head_fields shape.kind (decimal (label_number shape.kind shape.label)) in
-    ap (λ (l : List ℕ). decimal number ++ (l ++ (10 ∷ []))) (spaced-append head (map decimal (children shape)))
-    ∙ rw (head_bytes_lem shape.kind shape.label, children-bytes shape, append_assoc (head_bytes shape.kind shape.label) (children_bytes shape) (10 ∷ []))
+    let kind = kind_of shape.kind in
+    let label = label_shown kind (decimal (number_shown kind shape.label)) in
+    let fields = map decimal (children shape) in
+    ap (λ (l : List ℕ). decimal number ++ ((32 ∷ (name_of kind ++ l)) ++ (10 ∷ []))) (spaced-append label fields)
+    ∙ rw (label-bytes kind shape.label) (regroup (decimal number) (name_bytes shape.kind) (label_bytes (number_in kind shape.label)) (spaced fields) (10 ∷ []))
 
 pub line-size : (number : ℕ) (shape : Shape)
-    → length (node_line plain_label number shape) ≡ length (decimal number) + (length (head_bytes shape.kind shape.label) + (length (children_bytes shape) + 1))
-line-size number shape = ap length (line-parts number shape) ∙ simp length-append
+    → length (node_line plain_label number shape)
+    ≡ length (decimal number) + length (name_bytes shape.kind) + length (label_bytes (number_in (kind_of shape.kind) shape.label)) + length (spaced (map decimal (children shape))) + 1
+line-size number shape = ap length (line-parts number shape) ∙ simp length-append (omega arith)
 
 -- ---- the lines
 
@@ -125,12 +120,11 @@ lines-within words count i h =
 
 -- ---- the last line
 
-pub answer-parts : (answer : ℕ) → answer_line answer ≡ (97 ∷ 110 ∷ 115 ∷ 119 ∷ 101 ∷ 114 ∷ []) ++ (field_bytes true answer ++ (10 ∷ []))
-unfolding answer_line line spaced field_bytes
+pub answer-parts : (answer : ℕ) → answer_line answer ≡ (97 ∷ 110 ∷ 115 ∷ 119 ∷ 101 ∷ 114 ∷ 32 ∷ []) ++ (decimal answer ++ (10 ∷ []))
+unfolding answer_line line spaced
 answer-parts answer = ap (λ (l : List ℕ). (97 ∷ 110 ∷ 115 ∷ 119 ∷ 101 ∷ 114 ∷ []) ++ ((32 ∷ l) ++ (10 ∷ []))) (append-nil (decimal answer))
 
 pub answer-size : (answer : ℕ) → length (answer_line answer) ≡ 8 + length (decimal answer)
-unfolding field_bytes
 answer-size answer = ap length (answer-parts answer) ∙ omega (arith, length-append (decimal answer) (10 ∷ []))
 
 -- ---- the listing

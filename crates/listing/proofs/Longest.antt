@@ -2,25 +2,23 @@
 use Prim.Native.Nat.{ℕ, suc, ◌+◌, ◌*◌, ◌<◌, ◌≤◌}
 use native.Mathlib.Omega.{arith}
 use native.Mathlib.Nat.{zero-add}
-use mathlib.Core.Path.{◌≡◌, refl, sym, subst}
-use mathlib.Core.Bool.{Bool, true, false, cond}
-use mathlib.Core.List.{List, [], ◌∷◌, ◌++◌}
-use lib.Dec.{ltb}
+use mathlib.Core.Path.{◌≡◌, sym, subst}
+use mathlib.Core.List.{List, [], ◌∷◌, map}
 use lib.ListN.{length, length-append}
-use borrow.Author.Tests.{ltb-true}
+use Rattle.ground.specs.Lists.{All}
+use Rattle.ground.proofs.Lists.{all_map}
 use Rattle.buffers.specs.Decimal.{decimal}
 use Rattle.buffers.proofs.Decimal.{digits-below, digits-four}
 use Rattle.expressions.specs.declared.Shape.{Shape}
-use Rattle.expressions.specs.Nodes.{Kind, emptyᴷ, holeᴷ, symbolᴷ, altᴷ, catᴷ, iterᴷ, otherᴷ, kind_of, Table, node_at, symbol_of, child_count}
+use Rattle.expressions.specs.Nodes.{Kind, emptyᴷ, holeᴷ, symbolᴷ, altᴷ, catᴷ, iterᴷ, otherᴷ, kind_of, Table, node_at, symbol_of, children}
 use Rattle.expressions.specs.Words.{table_of}
 use Rattle.expressions.specs.Soundness.{Labelled, LabelledAs, Fits, SoundNodes, Sound}
 use Rattle.expressions.proofs.Words.{length-table}
 use Rattle.expressions.proofs.Soundness.{fits-at}
-use Rattle.expressions.proofs.Places.{child-first, child-second, child-third}
-use Rattle.listing.specs.Listing.{name_of, kind_name, number_shown, label_number, plain_label, node_line, node_lines, answer_line, listing, longest_line, longest_answer}
+use Rattle.listing.specs.Listing.{name_of, kind_name, spaced, plain_label, node_line, node_lines, answer_line, listing, longest_line, longest_answer}
 use Rattle.listing.specs.Answers.{listing_of}
-use Rattle.listing.specs.Inside.{shows_label, field_bytes, head_bytes, children_bytes}
-use Rattle.listing.proofs.Listing.{line-size, answer-size}
+use Rattle.listing.specs.Inside.{name_bytes, number_in, label_bytes}
+use Rattle.listing.proofs.Listing.{children-few, line-size, answer-size}
 
 -- ---- a line
 
@@ -28,11 +26,11 @@ two_digits : (n : ℕ) → n < 100 → length (decimal n) ≤ 2
 two_digits n h = digits-below 1 n h
 
 -- " symbol 31" is the longest name with its label
-head-most : (kind label : ℕ) → Labelled kind label → length (head_bytes kind label) ≤ 10
-unfolding head_bytes kind_name label_number field_bytes
+pub head-most : (kind label : ℕ) → Labelled kind label → length (name_bytes kind) + length (label_bytes (number_in (kind_of kind) label)) ≤ 10
+unfolding kind_name
 head-most kind label l = go (kind_of kind) l
   where
-    go : (k : Kind) → LabelledAs k label → length ((32 ∷ name_of k) ++ cond (shows_label k) (32 ∷ decimal (number_shown k label)) []) ≤ 10
+    go : (k : Kind) → LabelledAs k label → length (32 ∷ name_of k) + length (label_bytes (number_in k label)) ≤ 10
     go emptyᴷ l = omega arith
     go holeᴷ l = omega (arith, two_digits label (omega arith))
     go symbolᴷ l = let h = l.0 in omega (arith, two_digits (symbol_of label) (omega arith))
@@ -41,21 +39,17 @@ head-most kind label l = go (kind_of kind) l
     go iterᴷ l = omega (arith, two_digits label (omega arith))
     go otherᴷ l = absurd l
 
-field-most : (used : Bool) (n : ℕ) → (used ≡ true → n < 10000) → length (field_bytes used n) ≤ 5
-unfolding field_bytes
-field-most true n small = omega (arith, digits-four n (small refl))
-field-most false n small = omega arith
+-- some fields of at most four digits each
+pub fields-most : (cs : List ℕ) → All (λ c. c < 10000) cs → length (spaced (map decimal cs)) ≤ 5 * length cs
+unfolding spaced
+fields-most [] h = omega arith
+fields-most (c ∷ cs) h = omega (arith, length-append (decimal c) (spaced (map decimal cs)), digits-four c h.0, fields-most cs h.1)
 
-children-most : (number : ℕ) (shape : Shape) → number ≤ 10000 → Fits number shape → length (children_bytes shape) ≤ 15
-unfolding children_bytes
+pub children-most : (number : ℕ) (shape : Shape) → number ≤ 10000 → Fits number shape → length (spaced (map decimal (children shape))) ≤ 15
 children-most number shape h f =
-    let n = child_count shape.kind shape.label in
-    let first : length (field_bytes (ltb 0 n) shape.first) ≤ 5 = field-most (ltb 0 n) shape.first (λ e. let l = child-first (λ c. c < number) shape refl f.earlier (ltb-true 0 n e) in omega arith) in
-    let second : length (field_bytes (ltb 1 n) shape.second) ≤ 5 = field-most (ltb 1 n) shape.second (λ e. let l = child-second (λ c. c < number) shape refl f.earlier (ltb-true 1 n e) in omega arith) in
-    let third : length (field_bytes (ltb 2 n) shape.third) ≤ 5 = field-most (ltb 2 n) shape.third (λ e. let l = child-third (λ c. c < number) shape refl f.earlier (ltb-true 2 n e) in omega arith) in
-    simp length-append (omega arith)
+    omega (arith, children-few shape, fields-most (children shape) (all_map (children shape) (λ c l. omega arith) f.earlier))
 
-line-most : (number : ℕ) (shape : Shape) → number < 10000 → Fits number shape → length (node_line plain_label number shape) ≤ longest_line
+pub line-most : (number : ℕ) (shape : Shape) → number < 10000 → Fits number shape → length (node_line plain_label number shape) ≤ longest_line
 line-most number shape h f =
     omega (
       arith,

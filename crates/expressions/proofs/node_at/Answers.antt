@@ -1,11 +1,7 @@
 -- `expressions::node_at` meets its contract.
-use native.Mathlib.Omega.{arith}
-use mathlib.Core.Path.{sym, ◌∙◌}
-use Rattle.expressions.proofs.Words.{node-whole, node-past}
+use mathlib.Core.Path.{◌∙◌}
+use Rattle.expressions.proofs.Chunks.{node-chunk}
 use Rattle.expressions.proofs.node_at.Goals as goal
 
-pub returns-then-i-words : goal.returns-then-i-words
-returns-then-i-words c = let a = c.args in c.node_at.ensures ∙ sym (node-whole a.words.now a.i (omega arith))
-
 pub returns : goal.returns
-returns c = let a = c.args in sym (node-past a.words.now a.i (omega arith))
+returns c = rw c.as_chunks.ensures.front at c.nth.ensures ∙ node-chunk c.args.words.now c.args.i

@@ -1,30 +1,22 @@
-use native.Mathlib.Omega.{arith}
-use mathlib.Core.Path.{◌≡◌}
-use Rattle.ground.proofs.Deciding.{decides-no, decides-yes, refuted}
-use Rattle.expressions.proofs.Checks.{sound-start, sound_more, sound-node}
+-- `nodes::all_sound` meets its contract.
+use Rattle.std.proofs.Common.{rules, ◌<◌, arith, length, take, sym, refl, true, false}
+use lib.ListN.{length-map}
+use Rattle.ground.specs.Decides.{Decides}
+use Rattle.std.proofs.lemmas.Iterator.{cases_from_all, YieldsList-from_range}
+use Rattle.ground.proofs.Deciding.{refuted}
+use Rattle.expressions.specs.Nodes.{node_at}
+use Rattle.expressions.specs.Words.{decode}
+use Rattle.expressions.specs.Soundness.{SoundNode}
+use Rattle.expressions.specs.Inside.{nodes_of}
+use Rattle.expressions.proofs.Checks.{sound-decided}
 use Rattle.expressions.proofs.nodes.all_sound.Goals as goal
 
-pub loop-i-init : goal.loop-i-init
-loop-i-init c = (omega arith, sound-start _)
-
-pub node_sound-requires : goal.node_sound-requires
-node_sound-requires c = omega arith
-
-pub returns-then-not-node_sound : goal.returns-then-not-node_sound
-returns-then-not-node_sound c =
-    let a = c.args in
-    decides-no (λ s. refuted c.node_sound.ensures c.if-not-node_sound.true (sound-node a.words.now a.count c.loop-i.i s c.loop-i-test.true))
-
-pub overflow_add-i : goal.overflow_add-i
-overflow_add-i c = omega arith
-
-pub loop-i-smaller : goal.loop-i-smaller
-loop-i-smaller c = omega arith
-
-pub loop-i-preserved : goal.loop-i-preserved
-loop-i-preserved c =
-    let a = c.args in
-    (omega arith, sound_more a.words.now c.loop-i.i c.loop-i.invariant.1 (c.node_sound.ensures.only c.if-not-node_sound.false))
-
 pub returns : goal.returns
-returns c = let e : c.loop-i.i ≡ c.args.count = omega arith in decides-yes (rw e at c.loop-i.invariant.1)
+returns c =
+    let table = nodes_of c.args.nodes.now in
+    let n = length c.args.nodes.now in
+    sound-decided table (sym (length-map c.args.nodes.now decode)) c.all.result
+    (cases_from_all _ _ _ (λ i. i < n → SoundNode (take i table) (node_at table i)) (λ i. i < n → SoundNode (take i table) (node_at table i) → ⊥) c.all.ensures.ran
+    (YieldsList-from_range 0 n n (cc) (omega arith))
+    (λ x q k. (search rules, λ l. let d : x < n → Decides (SoundNode (take x table) (node_at table x)) true = search rules in (d l).only refl))
+    (λ x q k l. let d : x < n → Decides (SoundNode (take x table) (node_at table x)) false = search rules in refuted (d l) refl))

@@ -1,27 +1,17 @@
--- `sizes::over_children` meets its contract.
-use native.Mathlib.Omega.{arith}
-use Prim.Native.Nat.{◌<◌}
-use lib.ListN.{length, get_or}
+-- `sizes::over_children` meets its contract: the sizes summed from the left.
+use Rattle.std.proofs.Common.{rules, ℕ, get_or, min, ◌+◌, ◌∙◌}
+use Rattle.std.proofs.lemmas.Iterator.{YieldsList-from_slice, YieldsList-from_take}
+use Rattle.std.proofs.lemmas.Iterator.Consumers.{fold_from_yields_List}
+use Rattle.expressions.specs.Nodes.{places, children}
+use Rattle.expressions.specs.Sizes.{most_size}
 use Rattle.expressions.specs.Inside.{size_over}
-use Rattle.expressions.proofs.Places.{child-first, child-second, child-third, sum-three}
+use Rattle.expressions.proofs.Places.{held-fold}
 use Rattle.expressions.proofs.sizes.over_children.Goals as goal
 
-pub part-a-requires : goal.part-a-requires
-part-a-requires c = child-first (λ i. i < length c.args.sizes.now) c.args.shape c.requires.n_value c.requires.all
-
-pub part-b-requires : goal.part-b-requires
-part-b-requires c = child-second (λ i. i < length c.args.sizes.now) c.args.shape c.requires.n_value c.requires.all
-
-pub part-c-requires : goal.part-c-requires
-part-c-requires c = child-third (λ i. i < length c.args.sizes.now) c.args.shape c.requires.n_value c.requires.all
-
 pub returns : goal.returns
-unfolding size_over
+unfolding size_over children
 returns c =
-    omega (
-      arith,
-      c.part-a.ensures.0,
-      c.part-b.ensures.0,
-      c.part-c.ensures.0,
-      sum-three (λ i. get_or c.args.sizes.now i 0) c.args.shape c.requires.n_value,
-    )
+    let size : ℕ → ℕ = λ i. get_or c.args.sizes.now i 0 in
+    let e = fold_from_yields_List _ (λ total i. min (total + size i) most_size) _ c.fold.result c.fold.ensures.ran
+    (YieldsList-from_take c.child_count.result (YieldsList-from_slice (places c.args.shape) cc) cc) (λ a x b q k. search rules) in
+    e ∙ rw c.child_count.ensures (held-fold size (children c.args.shape) 1)
