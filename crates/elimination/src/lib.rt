@@ -7,6 +7,8 @@ ghost use Rattle.automaton.specs.Handed.{Handed};
 ghost use Rattle.elimination.specs.Answers.{PartlyAnswered, WhollyAnswered, partly_answer, wholly_answer};
 ghost use Rattle.elimination.specs.Inside.{PartlyOf, WhollyOf};
 
+use crate::maker::Got;
+use crate::rows::Staged;
 use automaton::{Automaton, Refusal, Refused};
 use ground::Wide;
 
@@ -103,8 +105,16 @@ fn partly_of(nodes: &mut [u32], value: Automaton, k: u32) -> Result<Stopped, Ref
     if value.states.wide() < k {
         return Err(Refused::TooFar);
     }
-    let staged = course::partly(nodes, value, k);
-    report::stop(nodes, staged)
+    let Ok(Staged { count, list }) = course::partly(nodes, &value, k) else {
+        buffers::zero(nodes);
+        return Err(Refused::Short);
+    };
+    let rows = list.rows();
+    Ok(Stopped {
+        nodes: count as usize,
+        rows: rows.len(),
+        list: report::list_rows(nodes, rows),
+    })
 }
 
 // The automaton of a file after the first k states are taken out: the nodes go to the lent words.
@@ -119,8 +129,14 @@ fn wholly_of(nodes: &mut [u32], value: Automaton) -> Result<Converted, Refused>
     requires { Handed value }
     ensures { WhollyOf (held_by value) nodes.old nodes.new (wholly_answer result) }
 {
-    let got = course::wholly(nodes, value);
-    report::answer(nodes, got)
+    let Ok(Got { count, node }) = course::wholly(nodes, &value) else {
+        buffers::zero(nodes);
+        return Err(Refused::Short);
+    };
+    Ok(Converted {
+        nodes: count as usize,
+        answer: node as usize,
+    })
 }
 
 // The expression of a file's automaton: the nodes go to the lent words.
