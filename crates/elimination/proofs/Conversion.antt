@@ -56,10 +56,10 @@ module _ (value : Automaton) (handed : Handed value) where
       pub begin-has : (before after : List ℕ) (count : ℕ) → HasTable before (start (held_by value)).table after count → HasStage before (start (held_by value)) after (record { count = count; list = list })
       begin-has before after count h = record { has = h; listed = list-start }
 
-      pub begin-full : (before : List ℕ) → NoRoom before (holes_table n) → NoRoom before (start (held_by value)).table
+      pub begin-full : (before : List ℕ) (reason : Refused) → NoRoom before (holes_table n) reason → NoRoom before (start (held_by value)).table reason
       unfolding start start_table
-      begin-full before none =
-          less-room (rules-grow (holes_table (held_by value).states) (held_by value).rules) (subst (λ (m : ℕ). NoRoom before (holes_table m)) (en ∙ states-same value handed) none)
+      begin-full before reason none =
+          less-room (rules-grow (holes_table (held_by value).states) (held_by value).rules) (subst (λ (m : ℕ). NoRoom before (holes_table m) reason) (en ∙ states-same value handed) none)
 
 -- ---- the states
 
@@ -73,9 +73,9 @@ module _ (held : Held) (v : Valid held) (before w1 : List ℕ) (k : ℕ) (h : k 
   unfolding stage_after
   partly-gives begun g w2 r x = x before (start held) g (start-sorted held v, omega (arith, start-room held v))
 
-  pub partly-full : NoRoom before (start held).table → NoRoom before (stage_after k held).table
+  pub partly-full : (reason : Refused) → NoRoom before (start held).table reason → NoRoom before (stage_after k held).table reason
   unfolding stage_after
-  partly-full none = less-room (stages-grow (ascending k) (start held)) none
+  partly-full reason none = less-room (stages-grow (ascending k) (start held)) none
 
 -- a stop's rows are nodes of its table
 pub stage-low : (held : Held) → Valid held → (k : ℕ) → k ≤ held.states → LowRows (stage_after k held).rows (stage_after k held).table
@@ -93,9 +93,9 @@ all-final held v =
     go row (inr e) = e
 
 module _ (held : Held) (v : Valid held) (before w1 : List ℕ) (n : ℕ) (en : n ≡ held.states) where
-  pub wholly-full : NoRoom before (stage_after n held).table → NoRoom before (converted held).table
+  pub wholly-full : (reason : Refused) → NoRoom before (stage_after n held).table reason → NoRoom before (converted held).table reason
   unfolding converted
-  wholly-full none = less-room (join_stage-grows (stage_after held.states held)) (subst (λ (m : ℕ). NoRoom before (stage_after m held).table) en none)
+  wholly-full reason none = less-room (join_stage-grows (stage_after held.states held)) (subst (λ (m : ℕ). NoRoom before (stage_after m held).table reason) en none)
 
   pub wholly-gives : (last : Staged) → HasStage before (stage_after n held) w1 last → (q : ℕ) → q ≡ final_target → (w2 : List ℕ) (r : Result Got Refused)
       → NodeOn (NodeAndRows 0 last.list) (λ table. picked_made q false (stage_of table last.list)) w1 last.count w2 r

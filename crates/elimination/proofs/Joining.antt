@@ -168,4 +168,4 @@ module _ (q : ℕ) (looping : Bool) (rows : List NodeRow) (first : List ℕ) (co
             let z = x before table g s in
             let made = joined before table g s in
             less-room (subst (λ (m : Made). Grown made.table m.table) (still before table g s) (join_from-grows made.table made.node (nodes (those (picks q looping table) (drop (i + 1) rows)))))
-            (subst (λ (m : Made). NoRoom before m.table) (joined-is before table g s) (y before z.made.table z.has.has (suits before table g s)))
+            (subst (λ (m : Made). NoRoom before m.table reason) (joined-is before table g s) (y before z.made.table z.has.has (suits before table g s)))

@@ -14,6 +14,8 @@ use Rattle.sets.specs.Members.{has, of_word, how_many, size, state_width}
 use Rattle.sets.proofs.Membership.{has-cut}
 use Rattle.automaton.specs.declared.Refusal.{Refusal}
 use Rattle.automaton.specs.declared.Refused.{Refused}
+use Rattle.automaton.specs.Refusals.{refusal, number_of}
+use Rattle.automaton.proofs.Refusing.{number-some}
 use Rattle.expressions.specs.declared.Shape.{Shape}
 use Rattle.expressions.specs.declared.Node.{Node}
 use Rattle.expressions.specs.Nodes.{Table, node_at, alt_shape, cat_shape, iter_shape}
@@ -28,7 +30,7 @@ use Rattle.theory.proofs.Nodes.StartTable.{with-length}
 use Rattle.theory.proofs.Nodes.Turns.{alt-left-empty, alt-right-empty, alt-new, cat-hole, cat-new, iter-empty, iter-new}
 use Rattle.elimination.specs.declared.maker.Got.{Got}
 use Rattle.elimination.specs.Answers.{written_to}
-use Rattle.elimination.specs.Inside.{Both, HasTable, HasNode, GivesNode, NodeOn}
+use Rattle.elimination.specs.Inside.{Both, NoRoom, HasTable, HasNode, GivesNode, NodeOn}
 use Rattle.elimination.proofs.Room.{written-length, written-node}
 
 -- ---- what a maker goes on from
@@ -69,14 +71,19 @@ module _ (words : List ℕ) (count : ℕ) (shape : Shape) (after : List ℕ) (an
         node = c;
       }
 
-  pub new_none : (answer.number ≡ 0 → ⊥) → (e : Refused) → NodeOn (λ table. Fits (length table) shape) (λ table. added table shape) words count after (Err e)
-  new_none n e before table h s room =
-      let l = with-length table shape in
-      let c = h.counted in
-      let few = room.few in
-      let roomy = room.roomy in
-      let more : Room words count = record { few = omega arith; roomy = omega (arith, written-length before table words h.words h.room.roomy) } in
-      n (ap (λ (r : Refusal). r.number) (m.done (rw c s) more).0)
+pub new_none : (words : List ℕ) (count : ℕ) (shape : Shape) (after : List ℕ) (reason : Refused) → Makes words count shape after (refusal (number_of reason))
+    → NodeOn (λ table. Fits (length table) shape) (λ table. added table shape) words count after (Err reason)
+new_none words count shape after reason m before table h s =
+    let l = with-length table shape in
+    let c = h.counted in
+    let no : Room words count → ⊥ = λ more. number-some reason (ap (λ (r : Refusal). r.number) (m.done (rw c s) more).0) in
+    record {
+      none = λ room.
+          let few = room.few in
+          let roomy = room.roomy in
+          no (record { few = omega arith; roomy = omega (arith, written-length before table words h.words h.room.roomy) });
+      short = ap (λ (r : Refusal). r.number) (m.full (rw c s) no).0;
+    }
 
 -- ---- the three rules
 

@@ -63,7 +63,7 @@ module _ (q : ℕ) (hq : q < state_width) (rows : List NodeRow) (words : List �
       let stage = stage_of table rows in
       let l = s.0 in
       less-room (rw (loop-is q stage) (iter-grows q (A-made q stage).table (A-made q stage).node))
-      (subst (λ (m : Made). NoRoom before m.table) (picked-A q hq table rows) (xa before table h (omega arith, s.1)))
+      (subst (λ (m : Made). NoRoom before m.table reason) (picked-A q hq table rows) (xa before table h (omega arith, s.1)))
 
   pub loop-node : (a : Got) → NodeOn (NodeAndRows 0 rows) (λ table. picked_made q true (stage_of table rows)) words count w1 (Ok a) → (w2 : List ℕ) (r : Result Got Refused)
       → NodeOn (λ table. a.node < length table) (λ table. iter_made q table a.node) w1 a.count w2 r
@@ -198,7 +198,7 @@ module _ (q : ℕ) (hq : q < state_width) (words : List ℕ) (staged : Staged) (
   out-full reason xx before stage h s =
       let X = stand_in_made q stage in
       less-room (subst (λ (t : Stage). Grown X.table t.table) (rows-stay q stage) (rows_grow q X.node X.table (those (remains_node q X.table) stage.rows)))
-      (subst (λ (t : Stage). NoRoom before (stand_in_made q t).table) (stage-is before stage h s) (xx before stage.table h.has (suits before stage h s)))
+      (subst (λ (t : Stage). NoRoom before (stand_in_made q t).table reason) (stage-is before stage h s) (xx before stage.table h.has (suits before stage h s)))
 
   module _ (x : Got) (xx : NodeOn (NodeAndRows (hole_at q) staged.list) (λ table. stand_in_made q (stage_of table staged.list)) words staged.count w1 (Ok x))
       (w2 : List ℕ) (r : Result Staged Refused)

@@ -13,9 +13,10 @@ use Rattle.ground.proofs.Places.{filled_none, filled-set, filled-take}
 use Rattle.ground.proofs.Lists.{all_map, map_same}
 use Rattle.automaton.specs.declared.Reading.{Reading}
 use Rattle.automaton.specs.declared.Refusal.{Refusal}
+use Rattle.automaton.specs.declared.Refused.{Refused}
 use Rattle.automaton.specs.Held.{Held, Valid}
 use Rattle.automaton.specs.Checks.{Verdict, holds, fault, verdict}
-use Rattle.automaton.specs.Refusals.{refusal, no_refusal}
+use Rattle.automaton.specs.Refusals.{refusal, no_refusal, number_of}
 use Rattle.automaton.specs.Answers.{held_by, read_answer}
 use Rattle.automaton.proofs.Files.Pair.{verdict-valid}
 use Rattle.automaton.proofs.Handing.{read-refused, read_done, read_held}
@@ -147,18 +148,19 @@ module _ (held : Held) (k : ℕ) (before : List ℕ) where
       far other o h = omega (arith, ap (λ (x : Held). x.states) (one e o))
 
   -- there is no room for the table
-  pub partly-short : k ≤ held.states → NoRoom before (stage_after k held).table → (w1 : List ℕ) → length w1 ≡ length before → PartlyOf held k before (all_zero w1) (refused_partly (refusal 6))
-  partly-short within none w1 el file e =
+  pub partly-short : k ≤ held.states → (reason : Refused) → NoRoom before (stage_after k held).table reason → (w1 : List ℕ) → length w1 ≡ length before
+      → PartlyOf held k before (all_zero w1) (refused_partly (refusal (number_of reason)))
+  partly-short within reason x w1 el file e =
       record {
         faulty = λ number offset d. absurd (no-fault e d);
         too_far = λ other o h. absurd (omega (arith, ap (λ (y : Held). y.states) (one e o)));
-        short = λ other o h l. (refl, ap (λ (n : ℕ). replicate n 0) el);
+        short = λ other o h l. (ap (λ (n : ℕ). refused_partly (refusal n)) x.short, ap (λ (n : ℕ). replicate n 0) el);
         done = λ other o h l. absurd (full (rw (← (one e o)) at l));
         means = λ other o h l. absurd (full (rw (← (one e o)) at l));
       }
     where
       full : length (stage_after k held).table ≤ whole_nodes before → ⊥
-      full l = let few = (partly-ascending held (verdict-valid file held e) k within).few in none (fits-ready before (length (stage_after k held).table) (omega (arith, bound-file held (verdict-valid file held e))) l)
+      full l = let few = (partly-ascending held (verdict-valid file held e) k within).few in x.none (fits-ready before (length (stage_after k held).table) (omega (arith, bound-file held (verdict-valid file held e))) l)
 
   -- a stop
   module _ (within : k ≤ held.states) (after : List ℕ) (staged : Staged) (g : HasStage before (stage_after k held) after staged) (list : List ListRow) (el : list ≡ reported_rows after staged.list) where
@@ -213,17 +215,18 @@ wholly-held file reading er before after r z p = let h = read_held file reading 
 
 module _ (held : Held) (before : List ℕ) where
   -- there is no room for the table
-  pub wholly-short : NoRoom before (converted held).table → (w1 : List ℕ) → length w1 ≡ length before → WhollyOf held before (all_zero w1) (refused_whole (refusal 6))
-  wholly-short none w1 el file e =
+  pub wholly-short : (reason : Refused) → NoRoom before (converted held).table reason → (w1 : List ℕ) → length w1 ≡ length before
+      → WhollyOf held before (all_zero w1) (refused_whole (refusal (number_of reason)))
+  wholly-short reason x w1 el file e =
       record {
         faulty = λ number offset d. absurd (no-fault e d);
-        short = λ other o l. (refl, ap (λ (n : ℕ). replicate n 0) el);
+        short = λ other o l. (ap (λ (n : ℕ). refused_whole (refusal n)) x.short, ap (λ (n : ℕ). replicate n 0) el);
         done = λ other o l. absurd (full (rw (← (one e o)) at l));
         means = λ other o l. absurd (full (rw (← (one e o)) at l));
       }
     where
       full : length (converted held).table ≤ whole_nodes before → ⊥
-      full l = let few = (wholly-ascending held (verdict-valid file held e)).few in none (fits-ready before (length (converted held).table) (omega (arith, bound-file held (verdict-valid file held e))) l)
+      full l = let few = (wholly-ascending held (verdict-valid file held e)).few in x.none (fits-ready before (length (converted held).table) (omega (arith, bound-file held (verdict-valid file held e))) l)
 
   -- an end
   module _ (after : List ℕ) (got : Got) (g : HasNode before (converted held) after got) where

@@ -159,7 +159,7 @@ module _ (q X : ℕ) (rows : List NodeRow) (first : List ℕ) (begun : ℕ) wher
             }
 
         pub replace-full : (reason : Refused) → NodeOn (Both row.node X) (λ table. replaced_made q X table row) words count after (Err reason)
-            → (before : List ℕ) (table : Table) → HasTable before table first begun → NodeAndRows X rows table → NoRoom before (replaced_rest q X table table rows).table
+            → (before : List ℕ) (table : Table) → HasTable before table first begun → NodeAndRows X rows table → NoRoom before (replaced_rest q X table table rows).table reason
         unfolding made
         replace-full reason y before table g s =
             let x = sofar before table g s in

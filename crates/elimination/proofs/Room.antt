@@ -4,6 +4,7 @@ use native.Mathlib.Omega.{arith}
 use mathlib.Core.Path.{◌≡◌, sym, ◌∙◌, ap}
 use mathlib.Core.List.{List}
 use lib.ListN.{length, drop, length-append, length-drop}
+use Rattle.automaton.specs.declared.Refused.{Refused}
 use Rattle.expressions.specs.Nodes.{Table, node_at}
 use Rattle.expressions.specs.Words.{node_width, node_in, table_of, words_of}
 use Rattle.expressions.specs.Soundness.{most_nodes}
@@ -17,8 +18,8 @@ pub ready-less : {words : List ℕ} {m n : ℕ} → Ready words n → m ≤ n �
 ready-less r h = let f = r.few in let g = r.roomy in record { few = omega arith; roomy = omega arith }
 
 -- a table only grows: where there is no room for it, there is none for what comes of it
-pub less-room : {before : List ℕ} {first longer : Table} → Grown first longer → NoRoom before first → NoRoom before longer
-less-room g none room = none (ready-less room (grown-longer g))
+pub less-room : {before : List ℕ} {first longer : Table} {reason : Refused} → Grown first longer → NoRoom before first reason → NoRoom before longer reason
+less-room g x = record { none = λ room. x.none (ready-less room (grown-longer g)); short = x.short }
 
 -- ---- words that have a table
 

@@ -49,7 +49,7 @@ module _ (before : List ℕ) (after : List ℕ) where
   pub empty-put : (got : Got) → NodeOn (λ table. Fits (length table) empty_shape) (λ table. added table empty_shape) before 0 after (Ok got) → HasTable before (holes_table 0) after got.count
   empty-put got x = rw holes-first (x before [] (has_none before) (empty-fits 0)).has
 
-  pub empty-full : (n : ℕ) (reason : Refused) → NodeOn (λ table. Fits (length table) empty_shape) (λ table. added table empty_shape) before 0 after (Err reason) → NoRoom before (holes_table n)
+  pub empty-full : (n : ℕ) (reason : Refused) → NodeOn (λ table. Fits (length table) empty_shape) (λ table. added table empty_shape) before 0 after (Err reason) → NoRoom before (holes_table n) reason
   empty-full n reason x = less-room (subst (λ (m : ℕ). Grown (holes_table 0) (holes_table m)) (zero-add n) (holes-grow n 0)) (rw holes-first (x before [] (has_none before) (empty-fits 0)))
 
 module _ (n : ℕ) (few : n ≤ state_width) (before words : List ℕ) (count q : ℕ) (l : HasTable before (holes_table q) words count) (h : q < n) (after : List ℕ) where
@@ -58,11 +58,11 @@ module _ (n : ℕ) (few : n ≤ state_width) (before words : List ℕ) (count q 
       subst (λ (t : Table). HasTable before t after got.count) (sym (holes-next q) ∙ ap holes_table (sym (add-one q)))
       (x before (holes_table q) l (hole-fits (length (holes_table q)) q (omega arith))).has
 
-  pub holes-full : (reason : Refused) → NodeOn (λ table. Fits (length table) (hole_shape q)) (λ table. added table (hole_shape q)) words count after (Err reason) → NoRoom before (holes_table n)
+  pub holes-full : (reason : Refused) → NodeOn (λ table. Fits (length table) (hole_shape q)) (λ table. added table (hole_shape q)) words count after (Err reason) → NoRoom before (holes_table n) reason
   holes-full reason x =
       let e : suc q + (n - suc q) ≡ n = omega arith in
       less-room (subst (λ (m : ℕ). Grown (holes_table (suc q)) (holes_table m)) e (holes-grow (n - suc q) (suc q)))
-      (subst (NoRoom before) (sym (holes-next q)) (x before (holes_table q) l (hole-fits (length (holes_table q)) q (omega arith))))
+      (subst (λ (t : Table). NoRoom before t reason) (sym (holes-next q)) (x before (holes_table q) l (hole-fits (length (holes_table q)) q (omega arith))))
 
 -- ---- the shape of a rule's node
 

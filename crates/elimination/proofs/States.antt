@@ -66,4 +66,4 @@ module _ (k : ℕ) (few : k ≤ state_width) (first : List ℕ) (begun : Staged)
       states-full reason x before stage g s =
           let e : q + 1 + (k - (q + 1)) ≡ k = omega arith in
           less-room (subst (λ (n : ℕ). Grown (after (q + 1) stage).table (after n stage).table) e (later-grows (k - (q + 1)) (q + 1) stage))
-          (subst (λ (t : Stage). NoRoom before t.table) (after_one q stage) (x before (after q stage) (l.goes before stage g s) (suits stage s)))
+          (subst (λ (t : Stage). NoRoom before t.table reason) (after_one q stage) (x before (after q stage) (l.goes before stage g s) (suits stage s)))

@@ -8,6 +8,7 @@ use Rattle.automaton.specs.declared.Row.{Row}
 use Rattle.automaton.specs.Held.{Held}
 use Rattle.automaton.specs.Checks.{holds, verdict}
 use Rattle.automaton.specs.declared.Refused.{Refused}
+use Rattle.automaton.specs.Refusals.{number_of}
 use Rattle.expressions.specs.declared.Shape.{Shape}
 use Rattle.expressions.specs.declared.Node.{Node}
 use Rattle.expressions.specs.Nodes.{Table, node_at, label_of, symbol_shape}
@@ -30,9 +31,10 @@ pub record Ready (words : List ℕ) (count : ℕ) : Type 0 where
   pub few : count ≤ most_nodes
   pub roomy : node_width * count ≤ length words
 
--- they have none for this table
-abbrev pub NoRoom : List ℕ → Table → Type 0
-NoRoom before table = Ready before (length table) → ⊥
+-- they have none for this table, and the refusal says so [4.22]
+pub record NoRoom (before : List ℕ) (table : Table) (reason : Refused) : Type 0 where
+  pub none : Ready before (length table) → ⊥
+  pub short : number_of reason ≡ 6
 
 -- the words, which had room for it, have this table, of so many nodes
 pub record HasTable (before : List ℕ) (table : Table) (after : List ℕ) (count : ℕ) : Type 0 where
@@ -45,12 +47,12 @@ pub record HasNode (before : List ℕ) (made : Made) (after : List ℕ) (got : G
   pub has : HasTable before made.table after got.count
   pub node : got.node ≡ made.node
 
--- a maker's result: the table, or the table and a node; refused exactly where there is no room for the table
+-- a maker's result: the table, or the table and a node; or that there is no room for the table
 abbrev pub GivesTable : List ℕ → Table → List ℕ → Result ℕ Refused → Type 0
-GivesTable before table after r = MatchResult r (HasTable before table after) (λ _. NoRoom before table)
+GivesTable before table after r = MatchResult r (HasTable before table after) (NoRoom before table)
 
 abbrev pub GivesNode : List ℕ → Made → List ℕ → Result Got Refused → Type 0
-GivesNode before made after r = MatchResult r (HasNode before made after) (λ _. NoRoom before made.table)
+GivesNode before made after r = MatchResult r (HasNode before made after) (NoRoom before made.table)
 
 -- what a maker promises that goes on from a table which suits it, from whatever words that began: it makes one step more
 abbrev pub TableOn : (Table → Type 0) → (Table → Table) → List ℕ → ℕ → List ℕ → Result ℕ Refused → Type 0
@@ -88,9 +90,9 @@ pub record HasStage (before : List ℕ) (stage : Stage) (after : List ℕ) (stag
   pub has : HasTable before stage.table after staged.count
   pub listed : staged.list ≡ stage.rows
 
--- so it is; refused exactly where there is no room for the table
+-- so it is; or there is no room for the table
 abbrev pub GivesStage : List ℕ → Stage → List ℕ → Result Staged Refused → Type 0
-GivesStage before stage after r = MatchResult r (HasStage before stage after) (λ _. NoRoom before stage.table)
+GivesStage before stage after r = MatchResult r (HasStage before stage after) (NoRoom before stage.table)
 
 -- a stage that a state may be taken out of: few rows, whose nodes the table has
 pub record Workable (stage : Stage) : Type 0 where

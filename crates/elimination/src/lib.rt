@@ -105,10 +105,11 @@ fn partly_of(nodes: &mut [u32], value: Automaton, k: u32) -> Result<Stopped, Ref
     if value.states.wide() < k {
         return Err(Refused::TooFar);
     }
-    let Ok(Staged { count, list }) = course::partly(nodes, &value, k) else {
+    let staged = course::partly(nodes, &value, k);
+    if staged.is_err() {
         buffers::zero(nodes);
-        return Err(Refused::Short);
-    };
+    }
+    let Staged { count, list } = staged?;
     let rows = list.rows();
     Ok(Stopped {
         nodes: count as usize,
@@ -129,10 +130,11 @@ fn wholly_of(nodes: &mut [u32], value: Automaton) -> Result<Converted, Refused>
     requires { Handed value }
     ensures { WhollyOf (held_by value) nodes.old nodes.new (wholly_answer result) }
 {
-    let Ok(Got { count, node }) = course::wholly(nodes, &value) else {
+    let made = course::wholly(nodes, &value);
+    if made.is_err() {
         buffers::zero(nodes);
-        return Err(Refused::Short);
-    };
+    }
+    let Got { count, node } = made?;
     Ok(Converted {
         nodes: count as usize,
         answer: node as usize,

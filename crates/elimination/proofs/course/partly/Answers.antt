@@ -11,7 +11,7 @@ returns-in_err-begun c =
     let h = c.requires.handed in
     let t = c.requires.k_le_states in
     let p = err_from_is_err_and c.from_residual.result c.from_residual.ensures.1 in
-    rw p.1 (partly-full (held_by a.value.now) h.valid a.words.now c.begin.new.words a.k (omega (arith, states-same a.value.now h)) c.in_err-begun.ensures)
+    rw (p.1, p.2) (partly-full (held_by a.value.now) h.valid a.words.now c.begin.new.words a.k (omega (arith, states-same a.value.now h)) c.in_err-begun.field-0.0 c.in_err-begun.ensures)
 
 pub take_first-requires : goal.take_first-requires
 take_first-requires c =

@@ -19,7 +19,7 @@ returns-in_err-staged c =
     let a = c.args in
     let l = c.loop-q in
     let p = err_from_is_err_and c.from_residual.result c.from_residual.ensures.1 in
-    rw p.1 (states-full a.k c.requires a.words.now a.begun l.words l.staged l.q l.invariant c.loop-q-test.true c.take_out.new.words p.0 c.in_err-staged.ensures)
+    rw (p.1, p.2) (states-full a.k c.requires a.words.now a.begun l.words l.staged l.q l.invariant c.loop-q-test.true c.take_out.new.words c.in_err-staged.field-0.0 c.in_err-staged.ensures)
 
 pub loop-q-preserved : goal.loop-q-preserved
 loop-q-preserved c =

@@ -10,7 +10,7 @@ returns-in_err-staged c =
     let a = c.args in
     let h = c.requires in
     let p = err_from_is_err_and c.from_residual.result c.from_residual.ensures.1 in
-    rw p.1 (wholly-full (held_by a.value.now) h.valid a.words.now c.partly.new.words c.wide.result (c.wide.ensures ∙ states-same a.value.now h) c.in_err-staged.ensures)
+    rw (p.1, p.2) (wholly-full (held_by a.value.now) h.valid a.words.now c.partly.new.words c.wide.result (c.wide.ensures ∙ states-same a.value.now h) c.in_err-staged.field-0.0 c.in_err-staged.ensures)
 
 pub returns : goal.returns
 returns c =

@@ -24,7 +24,7 @@ returns-in_err-holes c =
     let rules = c.rule_rows-list in
     let f = c.put_finals in
     let p = err_from_is_err_and c.from_residual.result c.from_residual.ensures.1 in
-    rw p.1 (begin-full a.value.now c.requires rules.result rules.ensures w.result w.ensures f.new.list f.ensures a.words.now c.in_err-holes.ensures)
+    rw (p.1, p.2) (begin-full a.value.now c.requires rules.result rules.ensures w.result w.ensures f.new.list f.ensures a.words.now c.in_err-holes.field-0.0 c.in_err-holes.ensures)
 
 pub returns-in_err-count : goal.returns-in_err-count
 returns-in_err-count c =
@@ -34,8 +34,8 @@ returns-in_err-count c =
     let f = c.put_finals in
     let x = c.put_rules in
     let p = err_from_is_err_and c.from_residual-in_err-count.result c.from_residual-in_err-count.ensures.1 in
-    rw p.1
-    (begin-gives a.value.now c.requires rules.result rules.ensures w.result w.ensures f.new.list f.ensures a.words.now c.put_holes.new.words c.in_ok-holes.holes c.in_ok-holes.ensures x.new.words (Err p.0) c.in_err-count.ensures)
+    rw (p.1, p.2)
+    (begin-gives a.value.now c.requires rules.result rules.ensures w.result w.ensures f.new.list f.ensures a.words.now c.put_holes.new.words c.in_ok-holes.holes c.in_ok-holes.ensures x.new.words (Err c.in_err-count.field-0.0) c.in_err-count.ensures)
 
 pub returns : goal.returns
 returns c =

@@ -11,7 +11,7 @@ pub returns-in_err-count : goal.returns-in_err-count
 returns-in_err-count c =
     let a = c.args in
     let p = err_from_is_err_and c.from_residual.result c.from_residual.ensures.1 in
-    rw p.1 (empty-full a.words.now c.new_node.new.words a.n p.0 c.in_err-count.ensures)
+    rw (p.1, p.2) (empty-full a.words.now c.new_node.new.words a.n c.in_err-count.field-0.0 c.in_err-count.ensures)
 
 pub loop-q-init : goal.loop-q-init
 loop-q-init c = empty-put c.args.words.now c.new_node.new.words c.in_ok-count.field-0 c.in_ok-count.ensures
@@ -22,7 +22,7 @@ returns-in_err-count-2 c =
     let l = c.loop-q in
     let f = c.from_residual-in_err-count-2 in
     let p = err_from_is_err_and f.result f.ensures.1 in
-    rw p.1 (holes-full a.n c.requires a.words.now l.words l.count l.q l.invariant c.loop-q-test.true c.new_node-in-loop-q.new.words p.0 c.in_err-count-2.ensures)
+    rw (p.1, p.2) (holes-full a.n c.requires a.words.now l.words l.count l.q l.invariant c.loop-q-test.true c.new_node-in-loop-q.new.words c.in_err-count-2.field-0.0 c.in_err-count-2.ensures)
 
 pub loop-q-preserved : goal.loop-q-preserved
 loop-q-preserved c =

@@ -25,8 +25,8 @@ returns-in_err-count c =
     let l = c.loop-rule in
     let shape = c.rule_shape-kind in
     let p = err_from_is_err_and c.from_residual.result c.from_residual.ensures.1 in
-    rw p.1
-    (rules-full a.value.now c.requires items.result.now items.ensures a.words.now a.begun l.words l.count l.rule-index l.invariant c.loop-rule-test.true shape.result shape.ensures c.new_node.new.words p.0 c.in_err-count.ensures)
+    rw (p.1, p.2)
+    (rules-full a.value.now c.requires items.result.now items.ensures a.words.now a.begun l.words l.count l.rule-index l.invariant c.loop-rule-test.true shape.result shape.ensures c.new_node.new.words c.in_err-count.field-0.0 c.in_err-count.ensures)
 
 pub loop-rule-preserved : goal.loop-rule-preserved
 loop-rule-preserved c =

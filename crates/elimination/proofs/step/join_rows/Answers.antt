@@ -14,8 +14,8 @@ returns-in_err-got c =
     let a = c.args in
     let l = c.loop-row in
     let p = err_from_is_err_and c.from_residual.result c.from_residual.ensures.1 in
-    rw p.1
-    (join-full a.q a.looping a.rows.now a.words.now a.count l.words l.got l.row-index l.invariant c.loop-row-test.true _ refl c.picked.result c.picked.ensures c.if-picked.true c.make_alt.new.words p.0
+    rw (p.1, p.2)
+    (join-full a.q a.looping a.rows.now a.words.now a.count l.words l.got l.row-index l.invariant c.loop-row-test.true _ refl c.picked.result c.picked.ensures c.if-picked.true c.make_alt.new.words c.in_err-got.field-0.0
     (rw c.wide.ensures at c.in_err-got.ensures))
 
 pub loop-row-preserved : goal.loop-row-preserved

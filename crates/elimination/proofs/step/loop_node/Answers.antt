@@ -6,7 +6,7 @@ pub returns-in_err-a : goal.returns-in_err-a
 returns-in_err-a c =
     let a = c.args in
     let p = err_from_is_err_and c.from_residual.result c.from_residual.ensures.1 in
-    rw p.1 (loop-full a.q c.requires a.rows.now a.words.now a.count c.join_rows.new.words p.0 c.in_err-a.ensures)
+    rw (p.1, p.2) (loop-full a.q c.requires a.rows.now a.words.now a.count c.join_rows.new.words c.in_err-a.field-0.0 c.in_err-a.ensures)
 
 pub returns : goal.returns
 returns c =

@@ -22,8 +22,8 @@ returns-in_err-got c =
     let a = c.args in
     let l = c.loop-row in
     let p = err_from_is_err_and c.from_residual.result c.from_residual.ensures.1 in
-    rw p.1
-    (replace-full a.q a.x.node a.rows.now a.words.now a.x.count l.words l.list l.count l.row-index l.invariant c.loop-row-test.true _ refl (λ e. c.if-wide-q.true (c.wide.ensures ∙ e)) c.replace.new.words p.0 c.in_err-got.ensures)
+    rw (p.1, p.2)
+    (replace-full a.q a.x.node a.rows.now a.words.now a.x.count l.words l.list l.count l.row-index l.invariant c.loop-row-test.true _ refl (λ e. c.if-wide-q.true (c.wide.ensures ∙ e)) c.replace.new.words c.in_err-got.field-0.0 c.in_err-got.ensures)
 
 pub loop-row-preserved : goal.loop-row-preserved
 loop-row-preserved c =

@@ -6,7 +6,7 @@ pub returns-in_err-x : goal.returns-in_err-x
 returns-in_err-x c =
     let a = c.args in
     let p = err_from_is_err_and c.from_residual.result c.from_residual.ensures.1 in
-    rw p.1 (out-full a.q c.requires a.words.now a.staged.now c.stand_in.new.words p.0 (rw c.rows-listed.ensures.rows at c.in_err-x.ensures))
+    rw (p.1, p.2) (out-full a.q c.requires a.words.now a.staged.now c.stand_in.new.words c.in_err-x.field-0.0 (rw c.rows-listed.ensures.rows at c.in_err-x.ensures))
 
 pub returns : goal.returns
 returns c =
