@@ -23,6 +23,7 @@ use Rattle.theory.proofs.Nodes.StartTable.{start-mirrors, holes-table}
 use Rattle.theory.proofs.Counting.Bound.{start-room, start_rows, rule_rows-count, finals-few}
 use Rattle.theory.proofs.Theorem.{partly-ascending}
 use Rattle.elimination.specs.declared.maker.Got.{Got}
+use Rattle.elimination.specs.declared.step.Pick.TheVariants.{Every}
 use Rattle.elimination.specs.declared.rows.Staged.{Staged}
 use Rattle.elimination.specs.Inside.{NodeAndRows, NoRoom, HasTable, HasStage, GivesTable, GivesNode, GivesStage, NodeOn, TableOn, StagesOn, Workable, LowRows, stage_of, picked_made}
 use Rattle.elimination.proofs.Room.{less-room}
@@ -83,28 +84,19 @@ stage-low held v k h = to-all (λ row. row.node < length (stage_after k held).ta
 
 -- ---- the join
 
--- after all states every row goes to the added final state
-all-final : (held : Held) → Valid held → All (λ row. row.target ≡ final_target) (stage_after held.states held).rows
-all-final held v =
-    to-all _ (stage_after held.states held).rows (λ row m. go row ((partly-ascending held v held.states (omega arith)).aimed row m))
-  where
-    go : (row : NodeRow) → ((row.target < held.states) × (row.target < held.states → ⊥)) ⊎ (row.target ≡ final_target) → row.target ≡ final_target
-    go row (inl h) = absurd (h.1 h.0)
-    go row (inr e) = e
-
 module _ (held : Held) (v : Valid held) (before w1 : List ℕ) (n : ℕ) (en : n ≡ held.states) where
   pub wholly-full : (reason : Refused) → NoRoom before (stage_after n held).table reason → NoRoom before (converted held).table reason
   unfolding converted
   wholly-full reason none = less-room (join_stage-grows (stage_after held.states held)) (subst (λ (m : ℕ). NoRoom before (stage_after m held).table reason) en none)
 
-  pub wholly-gives : (last : Staged) → HasStage before (stage_after n held) w1 last → (q : ℕ) → q ≡ final_target → (w2 : List ℕ) (r : Result Got Refused)
-      → NodeOn (NodeAndRows 0 last.list) (λ table. picked_made q false (stage_of table last.list)) w1 last.count w2 r
+  pub wholly-gives : (last : Staged) → HasStage before (stage_after n held) w1 last → (w2 : List ℕ) (r : Result Got Refused)
+      → NodeOn (NodeAndRows 0 last.list) (λ table. picked_made Every (stage_of table last.list)) w1 last.count w2 r
       → GivesNode before (converted held) w2 r
   unfolding converted stage_after
-  wholly-gives last g q eq w2 r x =
+  wholly-gives last g w2 r x =
       let stage = stage_after held.states held in
       let h : HasStage before stage w1 last = subst (λ (m : ℕ). HasStage before (stage_after m held) w1 last) en g in
       let some = grown-longer (stages-grow (ascending held.states) (start held)) in
       subst (λ (m : Made). GivesNode before m w2 r)
-      (ap₂ (λ (p : ℕ) (rows : List NodeRow). picked_made p false (stage_of stage.table rows)) eq h.listed ∙ picked-every stage (all-final held v))
+      (ap (λ (rows : List NodeRow). picked_made Every (stage_of stage.table rows)) h.listed ∙ picked-every stage)
       (x before stage.table h.has (omega (arith, start-room held v), rw h.listed (stage-low held v held.states (omega arith))))

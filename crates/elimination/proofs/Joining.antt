@@ -26,6 +26,8 @@ use Rattle.theory.specs.RowLists.{final_target}
 use Rattle.theory.specs.Stages.{Stage, Made, already, nodes, alt_made, join_made_from, join_made, join_stage, looping_node, incoming_node}
 use Rattle.theory.proofs.Nodes.Grows.{Grown, grown-none, grown-then, grown-longer, grown-node, alt-grows, join_from-grows}
 use Rattle.elimination.specs.declared.maker.Got.{Got}
+use Rattle.elimination.specs.declared.step.Pick.{Pick}
+use Rattle.elimination.specs.declared.step.Pick.TheVariants.{Looping, Incoming, Every}
 use Rattle.elimination.specs.Inside.{Both, NodeAndRows, NoRoom, HasTable, HasNode, NodeOn, no_row, stage_of, open_in, picked_by, picks, picked_made}
 use Rattle.elimination.proofs.Room.{less-room}
 use Rattle.elimination.proofs.Makers.{has_same, has-node, alt-low}
@@ -42,36 +44,23 @@ module _ (q : ℕ) (h : q < state_width) (table : Table) (rows : List NodeRow) w
   open-same : (row : NodeRow) → open_in q (node_at table row.node) ≡ has (node_at table row.node).opens q
   open-same row = has-cut state_width (node_at table row.node).opens q h
 
-  pub picks-looping : those (picks q true table) rows ≡ those (looping_node q table) rows
+  pub picks-looping : those (picks (Looping q) table) rows ≡ those (looping_node q table) rows
   unfolding looping_node
   picks-looping = those-same _ _ rows (to-all _ rows (λ row _. ap (eqb row.target q &&◌) (open-same row)))
 
-  pub picks-incoming : those (picks q false table) rows ≡ those (incoming_node q table) rows
+  pub picks-incoming : those (picks (Incoming q) table) rows ≡ those (incoming_node q table) rows
   unfolding incoming_node
   picks-incoming = those-same _ _ rows (to-all _ rows (λ row _. ap (λ (b : Bool). eqb row.target q && not b) (open-same row)))
 
--- where every row goes to the added final state, all are incoming there
-picks-every : (table : Table) (rows : List NodeRow) → All (λ row. row.target ≡ final_target) rows → those (picks final_target false table) rows ≡ rows
+-- every row is picked
+picks-every : (table : Table) (rows : List NodeRow) → those (picks Every table) rows ≡ rows
 unfolding those
-picks-every table [] a = refl
-picks-every table (row ∷ rows) a =
-    rw (eq-eqb row.target final_target a.0, has-high state_width (of_word state_width (node_at table row.node).opens) final_target (mod-lt _ (omega arith)) (omega arith))
-    (ap (row ∷◌) (picks-every table rows a.1))
+picks-every table [] = refl
+picks-every table (row ∷ rows) = ap (row ∷◌) (picks-every table rows)
 
-pub picked-every : (stage : Stage) → All (λ row. row.target ≡ final_target) stage.rows → picked_made final_target false stage ≡ join_stage stage
+pub picked-every : (stage : Stage) → picked_made Every stage ≡ join_stage stage
 unfolding join_stage
-picked-every stage a = ap (λ (rows : List NodeRow). join_made stage.table (nodes rows)) (picks-every stage.table stage.rows a)
-
--- ---- the test on the words
-
-pub picked-looping : (q target : ℕ) (node : Node) (found : ℕ) (looping r : Bool) → found ≡ target → found ≡ q → looping ≡ true → r ≡ open_in q node → r ≡ picked_by q looping target node
-picked-looping q target node found looping r e f g h = rw (eq-eqb target q (sym e ∙ f), g) h
-
-pub picked-incoming : (q target : ℕ) (node : Node) (found : ℕ) (looping r : Bool) → found ≡ target → found ≡ q → looping ≡ false → r ≡ open_in q node → not r ≡ picked_by q looping target node
-picked-incoming q target node found looping r e f g h = rw (eq-eqb target q (sym e ∙ f), g) (ap not h)
-
-pub picked-other : (q target : ℕ) (node : Node) (found : ℕ) (looping : Bool) → found ≡ target → (found ≡ q → ⊥) → false ≡ picked_by q looping target node
-picked-other q target node found looping e n = rw (ne_eqb target q (λ f. n (e ∙ f))) refl
+picked-every stage = ap (λ (rows : List NodeRow). join_made stage.table (nodes rows)) (picks-every stage.table stage.rows)
 
 -- ---- the rows one after the other
 
@@ -80,34 +69,34 @@ pub drop-row : (rows : List NodeRow) (i : ℕ) (row : NodeRow) → i < length ro
 drop-row rows i row h e = drop-cons rows i no_row h ∙ ap₂ (λ (one : NodeRow) (m : ℕ). one ∷ drop m rows) (sym e) (sym (add-one i))
 
 -- what is joined so far: with the rows from here on it comes to what is asked
-pub record JoinedSoFar (q : ℕ) (looping : Bool) (before : List ℕ) (table : Table) (rows rest : List NodeRow) (words : List ℕ) (got : Got) : Type 0 where
+pub record JoinedSoFar (pick : Pick) (before : List ℕ) (table : Table) (rows rest : List NodeRow) (words : List ℕ) (got : Got) : Type 0 where
   pub made : Made
   pub grew : Grown table made.table
   pub low : made.node < length made.table
   pub has : HasNode before made words got
-  pub still : join_made_from made.table made.node (nodes (those (picks q looping table) rest)) ≡ picked_made q looping (stage_of table rows)
+  pub still : join_made_from made.table made.node (nodes (those (picks pick table) rest)) ≡ picked_made pick (stage_of table rows)
 
-abbrev pub JoinLoop : ℕ → Bool → List NodeRow → List ℕ → ℕ → List ℕ → Got → ℕ → Type 0
-JoinLoop q looping rows first count words got i =
-    (before : List ℕ) (table : Table) → HasTable before table first count → NodeAndRows 0 rows table → JoinedSoFar q looping before table rows (drop i rows) words got
+abbrev pub JoinLoop : Pick → List NodeRow → List ℕ → ℕ → List ℕ → Got → ℕ → Type 0
+JoinLoop pick rows first count words got i =
+    (before : List ℕ) (table : Table) → HasTable before table first count → NodeAndRows 0 rows table → JoinedSoFar pick before table rows (drop i rows) words got
 
-module _ (q : ℕ) (looping : Bool) (rows : List NodeRow) (first : List ℕ) (count : ℕ) where
-  pub join-start : JoinLoop q looping rows first count first (record { count = count; node = 0 }) 0
+module _ (pick : Pick) (rows : List NodeRow) (first : List ℕ) (count : ℕ) where
+  pub join-start : JoinLoop pick rows first count first (record { count = count; node = 0 }) 0
   unfolding join_made
   join-start before table h s = record { made = already table 0; grew = grown-none table; low = s.0; has = has_same h 0; still = refl }
 
-  module _ (words : List ℕ) (got : Got) (i : ℕ) (l : JoinLoop q looping rows first count words got i) where
-    pub join-end : length rows ≤ i → NodeOn (NodeAndRows 0 rows) (λ table. picked_made q looping (stage_of table rows)) first count words (Ok got)
+  module _ (words : List ℕ) (got : Got) (i : ℕ) (l : JoinLoop pick rows first count words got i) where
+    pub join-end : length rows ≤ i → NodeOn (NodeAndRows 0 rows) (λ table. picked_made pick (stage_of table rows)) first count words (Ok got)
     unfolding join_made_from those
     join-end h before table g s =
         let x = l before table g s in
         subst (λ (m : Made). HasNode before m words got)
-        (subst (λ (rest : List NodeRow). join_made_from x.made.table x.made.node (nodes (those (picks q looping table) rest)) ≡ picked_made q looping (stage_of table rows)) (drop_all i rows h) x.still) x.has
+        (subst (λ (rest : List NodeRow). join_made_from x.made.table x.made.node (nodes (those (picks pick table) rest)) ≡ picked_made pick (stage_of table rows)) (drop_all i rows h) x.still) x.has
 
-    module _ (h : i < length rows) (row : NodeRow) (er : row ≡ get_or rows i no_row) (r : Bool) (e : r ≡ picked_by q looping row.target (node_in words row.node)) where
+    module _ (h : i < length rows) (row : NodeRow) (er : row ≡ get_or rows i no_row) (r : Bool) (e : r ≡ picked_by pick row.target (node_in words row.node)) where
       module _ (before : List ℕ) (table : Table) (g : HasTable before table first count) (s : NodeAndRows 0 rows table) where
-        sofar : JoinedSoFar q looping before table rows (row ∷ drop (i + 1) rows) words got
-        sofar = subst (λ (rest : List NodeRow). JoinedSoFar q looping before table rows rest words got) (drop-row rows i row h er) (l before table g s)
+        sofar : JoinedSoFar pick before table rows (row ∷ drop (i + 1) rows) words got
+        sofar = subst (λ (rest : List NodeRow). JoinedSoFar pick before table rows rest words got) (drop-row rows i row h er) (l before table g s)
 
         low : row.node < length table
         low = subst (λ (one : NodeRow). one.node < length table) (sym er) (all-at (λ one. one.node < length table) rows s.1 i no_row h)
@@ -116,10 +105,10 @@ module _ (q : ℕ) (looping : Bool) (rows : List NodeRow) (first : List ℕ) (co
         suits = let a = grown-longer sofar.grew in let b = low in let c = sofar.low in (omega (arith, sofar.has.node), omega arith)
 
         -- the test on the words says what the rows' table says
-        pick_is : picks q looping table row ≡ r
-        pick_is = sym (e ∙ ap (picked_by q looping row.target) (has-node sofar.has.has row.node suits.1 ∙ grown-node sofar.grew row.node low))
+        pick_is : picks pick table row ≡ r
+        pick_is = sym (e ∙ ap (picked_by pick row.target) (has-node sofar.has.has row.node suits.1 ∙ grown-node sofar.grew row.node low))
 
-      pub join-passed : r ≡ false → JoinLoop q looping rows first count words got (i + 1)
+      pub join-passed : r ≡ false → JoinLoop pick rows first count words got (i + 1)
       unfolding those
       join-passed f before table g s =
           let x = sofar before table g s in
@@ -129,12 +118,12 @@ module _ (q : ℕ) (looping : Bool) (rows : List NodeRow) (first : List ℕ) (co
             low = x.low;
             has = x.has;
             still =
-                ap (λ (b : Bool). join_made_from x.made.table x.made.node (nodes (cond b (row ∷ those (picks q looping table) (drop (i + 1) rows)) (those (picks q looping table) (drop (i + 1) rows))))) (sym (pick_is before table g s ∙ f)) ∙ x.still;
+                ap (λ (b : Bool). join_made_from x.made.table x.made.node (nodes (cond b (row ∷ those (picks pick table) (drop (i + 1) rows)) (those (picks pick table) (drop (i + 1) rows))))) (sym (pick_is before table g s ∙ f)) ∙ x.still;
           }
 
       module _ (t : r ≡ true) (after : List ℕ) where
         module _ (before : List ℕ) (table : Table) (g : HasTable before table first count) (s : NodeAndRows 0 rows table) where
-          x : JoinedSoFar q looping before table rows (row ∷ drop (i + 1) rows) words got
+          x : JoinedSoFar pick before table rows (row ∷ drop (i + 1) rows) words got
           x = sofar before table g s
 
           joined : Made
@@ -144,12 +133,12 @@ module _ (q : ℕ) (looping : Bool) (rows : List NodeRow) (first : List ℕ) (co
           unfolding joined
           joined-is = ap (λ (n : ℕ). alt_made x.made.table n row.node) x.has.node
 
-          still : join_made_from joined.table joined.node (nodes (those (picks q looping table) (drop (i + 1) rows))) ≡ picked_made q looping (stage_of table rows)
+          still : join_made_from joined.table joined.node (nodes (those (picks pick table) (drop (i + 1) rows))) ≡ picked_made pick (stage_of table rows)
           unfolding joined x those join_made_from
-          still = ap (λ (b : Bool). join_made_from x.made.table x.made.node (nodes (cond b (row ∷ those (picks q looping table) (drop (i + 1) rows)) (those (picks q looping table) (drop (i + 1) rows))))) (sym (pick_is before table g s ∙ t)) ∙ x.still
+          still = ap (λ (b : Bool). join_made_from x.made.table x.made.node (nodes (cond b (row ∷ those (picks pick table) (drop (i + 1) rows)) (those (picks pick table) (drop (i + 1) rows))))) (sym (pick_is before table g s ∙ t)) ∙ x.still
 
         pub join-next : (next : Got) → NodeOn (Both got.node row.node) (λ table. alt_made table got.node row.node) words got.count after (Ok next)
-            → JoinLoop q looping rows first count after next (i + 1)
+            → JoinLoop pick rows first count after next (i + 1)
         unfolding joined x
         join-next next y before table g s =
             let z = x before table g s in
@@ -162,10 +151,10 @@ module _ (q : ℕ) (looping : Bool) (rows : List NodeRow) (first : List ℕ) (co
             }
 
         pub join-full : (reason : Refused) → NodeOn (Both got.node row.node) (λ table. alt_made table got.node row.node) words got.count after (Err reason)
-            → NodeOn (NodeAndRows 0 rows) (λ table. picked_made q looping (stage_of table rows)) first count after (Err reason)
+            → NodeOn (NodeAndRows 0 rows) (λ table. picked_made pick (stage_of table rows)) first count after (Err reason)
         unfolding joined x
         join-full reason y before table g s =
             let z = x before table g s in
             let made = joined before table g s in
-            less-room (subst (λ (m : Made). Grown made.table m.table) (still before table g s) (join_from-grows made.table made.node (nodes (those (picks q looping table) (drop (i + 1) rows)))))
+            less-room (subst (λ (m : Made). Grown made.table m.table) (still before table g s) (join_from-grows made.table made.node (nodes (those (picks pick table) (drop (i + 1) rows)))))
             (subst (λ (m : Made). NoRoom before m.table reason) (joined-is before table g s) (y before z.made.table z.has.has (suits before table g s)))

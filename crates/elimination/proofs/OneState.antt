@@ -21,6 +21,7 @@ use Rattle.theory.proofs.Nodes.Mirror.{Low}
 use Rattle.theory.proofs.Nodes.MirrorRows.{low-nodes, low-rows-grown}
 use Rattle.theory.proofs.Counting.Bound.{step-rows}
 use Rattle.elimination.specs.declared.maker.Got.{Got}
+use Rattle.elimination.specs.declared.step.Pick.TheVariants.{Looping, Incoming}
 use Rattle.elimination.specs.declared.rows.Staged.{Staged}
 use Rattle.elimination.specs.Inside.{Both, NodeAndRows, NoRoom, HasTable, HasNode, HasStage, GivesNode, NodeOn, LowRows, stage_of, GivesStage, Workable, StageOn, StagesOn, picks, picked_made, loop_made}
 use Rattle.elimination.proofs.Room.{less-room}
@@ -52,12 +53,12 @@ low_of : (test : NodeRow → Bool) (rows : List NodeRow) (table : Table) → Low
 low_of test rows table low = low-nodes table (those test rows) (those-all (λ row. row.node < length table) test rows low)
 
 -- the rows that were picked on the words are the looping ones
-picked-A : (q : ℕ) → q < state_width → (table : Table) (rows : List NodeRow) → picked_made q true (stage_of table rows) ≡ A-made q (stage_of table rows)
+picked-A : (q : ℕ) → q < state_width → (table : Table) (rows : List NodeRow) → picked_made (Looping q) (stage_of table rows) ≡ A-made q (stage_of table rows)
 unfolding A-made
 picked-A q hq table rows = ap (λ (chosen : List NodeRow). join_made table (nodes chosen)) (picks-looping q hq table rows)
 
 module _ (q : ℕ) (hq : q < state_width) (rows : List NodeRow) (words : List ℕ) (count : ℕ) (w1 : List ℕ) where
-  pub loop-full : (reason : Refused) → NodeOn (NodeAndRows 0 rows) (λ table. picked_made q true (stage_of table rows)) words count w1 (Err reason)
+  pub loop-full : (reason : Refused) → NodeOn (NodeAndRows 0 rows) (λ table. picked_made (Looping q) (stage_of table rows)) words count w1 (Err reason)
       → NodeOn (NodeAndRows (hole_at q) rows) (λ table. loop_made q (stage_of table rows)) words count w1 (Err reason)
   loop-full reason xa before table h s =
       let stage = stage_of table rows in
@@ -65,7 +66,7 @@ module _ (q : ℕ) (hq : q < state_width) (rows : List NodeRow) (words : List �
       less-room (rw (loop-is q stage) (iter-grows q (A-made q stage).table (A-made q stage).node))
       (subst (λ (m : Made). NoRoom before m.table reason) (picked-A q hq table rows) (xa before table h (omega arith, s.1)))
 
-  pub loop-node : (a : Got) → NodeOn (NodeAndRows 0 rows) (λ table. picked_made q true (stage_of table rows)) words count w1 (Ok a) → (w2 : List ℕ) (r : Result Got Refused)
+  pub loop-node : (a : Got) → NodeOn (NodeAndRows 0 rows) (λ table. picked_made (Looping q) (stage_of table rows)) words count w1 (Ok a) → (w2 : List ℕ) (r : Result Got Refused)
       → NodeOn (λ table. a.node < length table) (λ table. iter_made q table a.node) w1 a.count w2 r
       → NodeOn (NodeAndRows (hole_at q) rows) (λ table. loop_made q (stage_of table rows)) words count w2 r
   unfolding A-made
@@ -88,17 +89,17 @@ incoming-grown q {old} {new} x rows low =
 
 -- B, by the table that I left
 B-made : ℕ → Stage → Made
-B-made q stage = picked_made q false (record { table = (loop_made q stage).table; rows = stage.rows })
+B-made q stage = picked_made (Incoming q) (record { table = (loop_made q stage).table; rows = stage.rows })
 
 B-grows : (q : ℕ) (stage : Stage) → Grown (loop_made q stage).table (B-made q stage).table
 unfolding B-made
-B-grows q stage = join-grows (loop_made q stage).table (nodes (those (picks q false (loop_made q stage).table) stage.rows))
+B-grows q stage = join-grows (loop_made q stage).table (nodes (those (picks (Incoming q) (loop_made q stage).table) stage.rows))
 
 B-low : (q : ℕ) (stage : Stage) → hole_at q < length stage.table → LowRows stage.rows stage.table → (B-made q stage).node < length (B-made q stage).table
 unfolding B-made
 B-low q stage h low =
     let i = loop-low q stage h in
-    join-low (loop_made q stage).table (nodes (those (picks q false (loop_made q stage).table) stage.rows)) (omega arith)
+    join-low (loop_made q stage).table (nodes (those (picks (Incoming q) (loop_made q stage).table) stage.rows)) (omega arith)
     (low_of _ stage.rows (loop_made q stage).table (low-rows-grown (loop-grows q stage) stage.rows low))
 
 stand_in-is : (q : ℕ) → q < state_width → (stage : Stage) → LowRows stage.rows stage.table → cat_made q (B-made q stage).table (loop_made q stage).node (B-made q stage).node ≡ stand_in_made q stage
@@ -122,7 +123,7 @@ module _ (q : ℕ) (hq : q < state_width) (rows : List NodeRow) (words : List �
       suits-B : NodeAndRows 0 rows (loop_made q (stage_of table rows)).table
       suits-B = let l = loop-low q (stage_of table rows) s.0 in (omega arith, low-rows-grown (loop-grows q (stage_of table rows)) rows s.1)
 
-    pub joined-full : (reason : Refused) → NodeOn (NodeAndRows 0 rows) (λ table. picked_made q false (stage_of table rows)) w1 i.count w2 (Err reason)
+    pub joined-full : (reason : Refused) → NodeOn (NodeAndRows 0 rows) (λ table. picked_made (Incoming q) (stage_of table rows)) w1 i.count w2 (Err reason)
         → NodeOn (NodeAndRows (hole_at q) rows) (λ table. stand_in_made q (stage_of table rows)) words count w2 (Err reason)
     unfolding B-made
     joined-full reason xb before table h s =
@@ -131,7 +132,7 @@ module _ (q : ℕ) (hq : q < state_width) (rows : List NodeRow) (words : List �
         less-room (rw (← (stand_in-is q hq stage s.1)) (cat-grows q (B-made q stage).table I.node (B-made q stage).node))
         (xb before I.table (xi before table h s).has (suits-B before table h s))
 
-    pub stand-in : (b : Got) → NodeOn (NodeAndRows 0 rows) (λ table. picked_made q false (stage_of table rows)) w1 i.count w2 (Ok b) → (w3 : List ℕ) (r : Result Got Refused)
+    pub stand-in : (b : Got) → NodeOn (NodeAndRows 0 rows) (λ table. picked_made (Incoming q) (stage_of table rows)) w1 i.count w2 (Ok b) → (w3 : List ℕ) (r : Result Got Refused)
         → NodeOn (Both i.node b.node) (λ table. cat_made q table i.node b.node) w2 b.count w3 r
         → NodeOn (NodeAndRows (hole_at q) rows) (λ table. stand_in_made q (stage_of table rows)) words count w3 r
     unfolding B-made

@@ -1,7 +1,7 @@
 -- What the private functions of a conversion promise one another. The public promises cite none of it.
 --
 -- Which row is which: a `Rule` is a row of the file, and `Row` is how an automaton's value has it. A `NodeRow` is a row of the list, a node and a target; it stands in a place of the list. A `ListRow` is a row of the list as it is reported.
-use Rattle.std.specs.Prelude.{ℕ, suc, ◌*◌, ◌≤◌, ◌<◌, ◌≡◌, Bool, cond, not, ◌&&◌, eqb, ltb, List, map, length, get_or, take, Result, MatchResult}
+use Rattle.std.specs.Prelude.{ℕ, suc, ◌*◌, ◌≤◌, ◌<◌, ◌≡◌, Bool, true, cond, not, ◌&&◌, eqb, ltb, List, map, length, get_or, take, Result, MatchResult}
 use Rattle.sets.specs.Members.{has, size, state_width, of_word}
 use Rattle.ground.specs.Lists.{All, filled, those}
 use Rattle.automaton.specs.declared.Row.{Row}
@@ -21,6 +21,8 @@ use Rattle.elimination.specs.declared.ListRow.{ListRow}
 use Rattle.elimination.specs.declared.Partly.{Partly}
 use Rattle.elimination.specs.declared.Wholly.{Wholly}
 use Rattle.elimination.specs.declared.maker.Got.{Got}
+use Rattle.elimination.specs.declared.step.Pick.{Pick}
+use Rattle.elimination.specs.declared.step.Pick.TheVariants.{Looping, Incoming, Every}
 use Rattle.elimination.specs.declared.rows.Staged.{Staged}
 use Rattle.elimination.specs.Answers.{written_to, unused_place, PartlyAnswered, WhollyAnswered}
 
@@ -123,16 +125,18 @@ row_shape row arity =
 abbrev pub open_in : ℕ → Node → Bool
 open_in q node = has (of_word state_width node.opens) q
 
--- a row to q where q is open, or where it is not, by its target and its node
-abbrev pub picked_by : ℕ → Bool → ℕ → Node → Bool
-picked_by q looping target node = eqb target q && cond looping (open_in q node) (not (open_in q node))
+-- is a row picked, by its target and its node?
+abbrev pub picked_by : Pick → ℕ → Node → Bool
+picked_by (Looping q) target node = eqb target q && open_in q node
+picked_by (Incoming q) target node = eqb target q && not (open_in q node)
+picked_by Every target node = true
 
-abbrev pub picks : ℕ → Bool → Table → NodeRow → Bool
-picks q looping table row = picked_by q looping row.target (node_at table row.node)
+abbrev pub picks : Pick → Table → NodeRow → Bool
+picks pick table row = picked_by pick row.target (node_at table row.node)
 
 -- the rows of a stage that are picked, joined
-abbrev pub picked_made : ℕ → Bool → Stage → Made
-picked_made q looping stage = join_made stage.table (nodes (those (picks q looping stage.table) stage.rows))
+abbrev pub picked_made : Pick → Stage → Made
+picked_made pick stage = join_made stage.table (nodes (those (picks pick stage.table) stage.rows))
 
 -- A and I
 unfoldable pub loop_made : ℕ → Stage → Made

@@ -9,7 +9,8 @@ ghost use Rattle.elimination.specs.Inside.{GivesNode, GivesStage, StagesOn, Work
 
 use crate::maker::Got;
 use crate::rows::Staged;
-use crate::{rows, start, step};
+use crate::step::Pick;
+use crate::{start, step};
 use automaton::{Automaton, Refused};
 use ground::Wide;
 
@@ -35,12 +36,11 @@ pub fn partly(words: &mut [u32], value: &Automaton, k: u32) -> Result<Staged, Re
     take_first(words, begun, k)
 }
 
-// All states, and the join. The rows that are left go to the added final state, which is open in none: they are its incoming rows.
+// All states, and the join of the rows that are left.
 pub fn wholly(words: &mut [u32], value: &Automaton) -> Result<Got, Refused>
     requires { Handed value.now }
     ensures { GivesNode words.old (converted (held_by value.now)) words.new result }
 {
     let staged = partly(words, value, value.states.wide())?;
-    let target = rows::FINAL_TARGET.wide();
-    step::join_rows(words, staged.count, staged.list.rows(), target, false)
+    step::join_rows(words, staged.count, staged.list.rows(), Pick::Every)
 }

@@ -14,33 +14,38 @@ use automaton::Refused;
 use ground::Wide;
 use theory::NodeRow;
 
-// Does the row go to q, with q open in it, or with q not open?
-fn picked(words: &[u32], row: NodeRow, q: u32, looping: bool) -> bool
-    ensures { result ≡ picked_by q looping row.target (node_in words.now row.node) }
-{
-    if row.target.wide() == q {
-        let open = maker::opens(words, row.node.wide(), q);
-        if looping {
-            return open;
-        }
-        return !open;
-    }
-    false
+// Which rows are joined: the looping ones of a state, its incoming ones, or every one. A closure in its place is no plainer: `join_rows` would
+// have to promise something of its answers for every table.
+#[derive(Clone, Copy, PartialEq, Eq, Debug)]
+pub enum Pick {
+    Looping(u32),
+    Incoming(u32),
+    Every,
 }
 
-// The looping rows of q joined, or the incoming ones.
+// Is the row one of those?
+fn picked(words: &[u32], row: NodeRow, pick: Pick) -> bool
+    ensures { result ≡ picked_by pick row.target (node_in words.now row.node) }
+{
+    match pick {
+        Pick::Looping(q) => row.target.wide() == q && maker::opens(words, row.node.wide(), q),
+        Pick::Incoming(q) => row.target.wide() == q && !maker::opens(words, row.node.wide(), q),
+        Pick::Every => true,
+    }
+}
+
+// The nodes of some rows joined.
 pub fn join_rows(
     words: &mut [u32],
     count: u32,
     rows: &[NodeRow],
-    q: u32,
-    looping: bool,
+    pick: Pick,
 ) -> Result<Got, Refused>
-    ensures { NodeOn (NodeAndRows 0 rows.now) (λ table. picked_made q looping (stage_of table rows.now)) words.old count words.new result }
+    ensures { NodeOn (NodeAndRows 0 rows.now) (λ table. picked_made pick (stage_of table rows.now)) words.old count words.new result }
 {
     let mut got = Got { count, node: 0 };
     for &row in rows {
-        if picked(&words[..], row, q, looping) {
+        if picked(&words[..], row, pick) {
             got = maker::make_alt(words, got.count, got.node, row.node.wide())?;
         }
     }
@@ -52,7 +57,7 @@ fn loop_node(words: &mut [u32], count: u32, rows: &[NodeRow], q: u32) -> Result<
     requires { q < state_width }
     ensures { NodeOn (NodeAndRows (hole_at q) rows.now) (λ table. loop_made q (stage_of table rows.now)) words.old count words.new result }
 {
-    let a = join_rows(words, count, rows, q, true)?;
+    let a = join_rows(words, count, rows, Pick::Looping(q))?;
     maker::make_iter(words, a.count, q, a.node)
 }
 
@@ -62,7 +67,7 @@ fn stand_in(words: &mut [u32], count: u32, rows: &[NodeRow], q: u32) -> Result<G
     ensures { NodeOn (NodeAndRows (hole_at q) rows.now) (λ table. stand_in_made q (stage_of table rows.now)) words.old count words.new result }
 {
     let i = loop_node(words, count, rows, q)?;
-    let b = join_rows(words, i.count, rows, q, false)?;
+    let b = join_rows(words, i.count, rows, Pick::Incoming(q))?;
     maker::make_cat(words, b.count, q, i.node, b.node)
 }
 

@@ -16,6 +16,5 @@ pub returns : goal.returns
 returns c =
     let a = c.args in
     let h = c.requires in
-    let t = c.wide-target in
     let x = c.join_rows in
-    wholly-gives (held_by a.value.now) h.valid a.words.now c.partly.new.words c.wide.result (c.wide.ensures ∙ states-same a.value.now h) c.in_ok-staged.staged c.in_ok-staged.ensures t.result t.ensures x.new.words x.result (rw c.rows.ensures.rows at x.ensures)
+    wholly-gives (held_by a.value.now) h.valid a.words.now c.partly.new.words c.wide.result (c.wide.ensures ∙ states-same a.value.now h) c.in_ok-staged.staged c.in_ok-staged.ensures x.new.words x.result (rw c.rows.ensures.rows at x.ensures)

@@ -7,7 +7,7 @@ use Rattle.elimination.proofs.step.join_rows.Goals.{then-picked+in_ok-got, else-
 pub loop-row-init : goal.loop-row-init
 loop-row-init c =
     let a = c.args in
-    join-start a.q a.looping a.rows.now a.words.now a.count
+    join-start a.pick a.rows.now a.words.now a.count
 
 pub returns-in_err-got : goal.returns-in_err-got
 returns-in_err-got c =
@@ -15,7 +15,7 @@ returns-in_err-got c =
     let l = c.loop-row in
     let p = err_from_is_err_and c.from_residual.result c.from_residual.ensures.1 in
     rw (p.1, p.2)
-    (join-full a.q a.looping a.rows.now a.words.now a.count l.words l.got l.row-index l.invariant c.loop-row-test.true _ refl c.picked.result c.picked.ensures c.if-picked.true c.make_alt.new.words c.in_err-got.field-0.0
+    (join-full a.pick a.rows.now a.words.now a.count l.words l.got l.row-index l.invariant c.loop-row-test.true _ refl c.picked.result c.picked.ensures c.if-picked.true c.make_alt.new.words c.in_err-got.field-0.0
     (rw c.wide.ensures at c.in_err-got.ensures))
 
 pub loop-row-preserved : goal.loop-row-preserved
@@ -25,15 +25,15 @@ loop-row-preserved c =
     elim c.if-picked.branch [
         then-picked+in_ok-got w ↦
             rw (w.words-is, w.got-is)
-            (join-next a.q a.looping a.rows.now a.words.now a.count l.words l.got l.row-index l.invariant c.loop-row-test.true _ refl c.picked.result c.picked.ensures w.if-picked.true w.make_alt.new.words w.in_ok-got.got
+            (join-next a.pick a.rows.now a.words.now a.count l.words l.got l.row-index l.invariant c.loop-row-test.true _ refl c.picked.result c.picked.ensures w.if-picked.true w.make_alt.new.words w.in_ok-got.got
             (rw w.wide.ensures at w.in_ok-got.ensures))
       | else-picked w ↦
             rw (w.words-is, w.got-is)
-            (join-passed a.q a.looping a.rows.now a.words.now a.count l.words l.got l.row-index l.invariant c.loop-row-test.true _ refl c.picked.result c.picked.ensures w.if-picked.false)
+            (join-passed a.pick a.rows.now a.words.now a.count l.words l.got l.row-index l.invariant c.loop-row-test.true _ refl c.picked.result c.picked.ensures w.if-picked.false)
     ]
 
 pub returns : goal.returns
 returns c =
     let a = c.args in
     let l = c.loop-row in
-    join-end a.q a.looping a.rows.now a.words.now a.count l.words l.got l.row-index l.invariant c.loop-row-test.false
+    join-end a.pick a.rows.now a.words.now a.count l.words l.got l.row-index l.invariant c.loop-row-test.false
