@@ -11,6 +11,14 @@ ghost use Rattle.elimination.specs.Inside.{Both, NodeOn, open_in};
 use automaton::Refused;
 use sets::StateSet;
 
+// The kinds of nodes. A table has them as numbers (7.2), and so do the definitions: an enum would be cast at every use.
+pub const EMPTY: u32 = 0;
+pub const HOLE: u32 = 1;
+pub const SYMBOL: u32 = 2;
+const ALTERNATION: u32 = 3;
+const CONCATENATION: u32 = 4;
+const ITERATION: u32 = 5;
+
 // What a maker made: the number of nodes, and the node that was asked for.
 #[derive(Clone, Copy)]
 pub struct Got {
@@ -36,7 +44,7 @@ pub fn waits(words: &[u32], node: u32) -> u32
 fn is_empty(words: &[u32], node: u32) -> bool
     ensures { result ≡ eqb (node_in words.now node).shape.kind 0 }
 {
-    expressions::node_at(words, node as usize).shape.kind == 0
+    expressions::node_at(words, node as usize).shape.kind == EMPTY
 }
 
 // Is the node hole q?
@@ -44,13 +52,10 @@ fn is_hole(words: &[u32], node: u32, q: u32) -> bool
     ensures { result ≡ (eqb (node_in words.now node).shape.kind 1 && eqb q (node_in words.now node).shape.label) }
 {
     let shape = expressions::node_at(words, node as usize).shape;
-    if shape.kind == 1 {
-        return q == shape.label;
-    }
-    false
+    shape.kind == HOLE && shape.label == q
 }
 
-// A new node.
+// A new node. The five numbers of its shape go one by one, so that the compiler sees the kind: a struct of five numbers crosses a call in memory.
 pub fn new_node(
     words: &mut [u32],
     count: u32,
@@ -80,7 +85,7 @@ pub fn make_alt(words: &mut [u32], count: u32, left: u32, right: u32) -> Result<
     if is_empty(&words[..], right) {
         return Ok(Got { count, node: left });
     }
-    new_node(words, count, 3, 0, left, right, 0)
+    new_node(words, count, ALTERNATION, 0, left, right, 0)
 }
 
 // The concatenation over q; with hole q on the left, the right.
@@ -97,7 +102,7 @@ pub fn make_cat(
     if is_hole(&words[..], left, q) {
         return Ok(Got { count, node: right });
     }
-    new_node(words, count, 4, q, left, right, 0)
+    new_node(words, count, CONCATENATION, q, left, right, 0)
 }
 
 // The iteration over q; of the empty node, hole q.
@@ -108,5 +113,5 @@ pub fn make_iter(words: &mut [u32], count: u32, q: u32, child: u32) -> Result<Go
     if is_empty(&words[..], child) {
         return Ok(Got { count, node: q + 1 });
     }
-    new_node(words, count, 5, q, child, 0, 0)
+    new_node(words, count, ITERATION, q, child, 0, 0)
 }

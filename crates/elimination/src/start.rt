@@ -9,6 +9,7 @@ ghost use Rattle.theory.specs.RowLists.{ascending, list_places};
 ghost use Rattle.theory.specs.Stages.{holes_table, rules_table, rule_rows, final_node_row, start};
 ghost use Rattle.elimination.specs.Inside.{GivesTable, TableOn, GivesStage, child_of, row_shape};
 
+use crate::maker::{EMPTY, HOLE, SYMBOL};
 use crate::rows::{Rows, Staged};
 use crate::{maker, rows};
 use automaton::{Automaton, Refused, Row, SYMBOL_PLACES};
@@ -21,9 +22,9 @@ fn put_holes(words: &mut [u32], n: u32) -> Result<u32, Refused>
     requires { n ≤ state_width }
     ensures { GivesTable words.old (holes_table n) words.new result }
 {
-    let mut count = maker::new_node(words, 0, 0, 0, 0, 0, 0)?.count;
+    let mut count = maker::new_node(words, 0, EMPTY, 0, 0, 0, 0)?.count;
     for q in 0..n {
-        count = maker::new_node(words, count, 1, q, 0, 0, 0)?.count;
+        count = maker::new_node(words, count, HOLE, q, 0, 0, 0)?.count;
     }
     Ok(count)
 }
@@ -51,7 +52,7 @@ fn rule_shape(rule: Row, arities: &[u8; SYMBOL_PLACES]) -> Shape
     let second = child(1, arity, sources[1]);
     let third = child(2, arity, sources[2]);
     Shape {
-        kind: 2,
+        kind: SYMBOL,
         label: rule.symbol.wide() + ARITY_STEP * arity,
         first,
         second,
