@@ -177,12 +177,6 @@ join-low table bs h low = join_from-low table 0 bs h low
 
 -- ---- the tests on words
 
-pub hole-test : (kind label q found : ℕ) → kind ≡ 1 → found ≡ label → eqb q found ≡ (eqb kind 1 && eqb q label)
-hole-test kind label q found e f = rw (eq-eqb kind 1 e, f) refl
-
-pub hole-kind : (kind label q : ℕ) → (kind ≡ 1 → ⊥) → false ≡ (eqb kind 1 && eqb q label)
-hole-kind kind label q n = rw (ne_eqb kind 1 n) refl
-
 -- a set has the same number of members where bits past the width are left out
 how_many-same : (width : ℕ) (test other : ℕ → Bool) → ((i : ℕ) → i < width → test i ≡ other i) → how_many width test ≡ how_many width other
 unfolding how_many

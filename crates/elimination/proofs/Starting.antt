@@ -140,9 +140,6 @@ module _ (value : Automaton) (handed : Handed value) where
     rule-in : i < length (held_by value).rules
     rule-in = omega (arith, ap length read, length-map (held_by value).rules placed_row)
 
-    pub rule-place : i < 64
-    rule-place = let f = handed.valid.few_rules in omega (arith, rule-in)
-
     rule-valid : ValidRule (held_by value).states (held_by value).arities rule
     unfolding rule
     rule-valid = all-at (ValidRule (held_by value).states (held_by value).arities) (held_by value).rules handed.valid.valid_rules i no_rule rule-in

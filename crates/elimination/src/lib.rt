@@ -24,7 +24,7 @@ pub const LIST_PLACES: usize = automaton::ROW_PLACES + automaton::MOST_STATES as
 
 // A row of a partial conversion's list: its node, its target, and how many different states it still waits for.
 #[repr(C)]
-#[derive(Clone, Copy)]
+#[derive(Clone, Copy, PartialEq, Eq, Debug)]
 pub struct ListRow {
     pub node: u16,
     pub target: u8,
@@ -32,7 +32,7 @@ pub struct ListRow {
 }
 
 // A conversion stopped after some states: the number of nodes, the number of rows, and the list; places past the rows are 0.
-#[derive(Clone, Copy)]
+#[derive(Clone, Copy, PartialEq, Eq, Debug)]
 pub struct Stopped {
     pub nodes: usize,
     pub rows: usize,
@@ -65,7 +65,7 @@ impl From<Result<Stopped, Refused>> for Partly {
 }
 
 // A full conversion: the number of nodes, and the answer's node.
-#[derive(Clone, Copy)]
+#[derive(Clone, Copy, PartialEq, Eq, Debug)]
 pub struct Converted {
     pub nodes: usize,
     pub answer: usize,

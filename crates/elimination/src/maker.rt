@@ -20,7 +20,7 @@ const CONCATENATION: u32 = 4;
 const ITERATION: u32 = 5;
 
 // What a maker made: the number of nodes, and the node that was asked for.
-#[derive(Clone, Copy)]
+#[derive(Clone, Copy, PartialEq, Eq, Debug)]
 pub struct Got {
     pub count: u32,
     pub node: u32,
