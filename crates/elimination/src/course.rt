@@ -9,6 +9,7 @@ ghost use Rattle.elimination.specs.Inside.{GivesNode, GivesStage, StagesOn, Work
 
 use crate::maker::Got;
 use crate::rows::Staged;
+use crate::state::State;
 use crate::step::Pick;
 use crate::{start, step};
 use automaton::{Automaton, Refused};
@@ -20,8 +21,8 @@ fn take_first(words: &mut [u32], begun: Staged, k: u32) -> Result<Staged, Refuse
     ensures { StagesOn (λ stage. Workable stage × (k < length stage.table)) (eliminated_stages (ascending k)) words.old begun words.new result }
 {
     let mut staged = begun;
-    for q in 0..k {
-        staged = step::take_out(words, &staged, q)?;
+    for number in 0..k {
+        staged = step::take_out(words, &staged, State { number })?;
     }
     Ok(staged)
 }

@@ -17,6 +17,7 @@ mod maker;
 mod report;
 mod rows;
 mod start;
+mod state;
 mod step;
 
 // The places of the row list: one for each row that a file may have, and one for each state.

@@ -8,6 +8,7 @@ ghost use Rattle.expressions.specs.Soundness.{Fits};
 ghost use Rattle.theory.specs.Stages.{added, alt_made, cat_made, iter_made};
 ghost use Rattle.elimination.specs.Inside.{Both, NodeOn, open_in};
 
+use crate::state::State;
 use automaton::Refused;
 use sets::StateSet;
 
@@ -92,26 +93,25 @@ pub fn make_alt(words: &mut [u32], count: u32, left: u32, right: u32) -> Result<
 pub fn make_cat(
     words: &mut [u32],
     count: u32,
-    q: u32,
+    q: State,
     left: u32,
     right: u32,
 ) -> Result<Got, Refused>
-    requires { q < state_width }
-    ensures { NodeOn (Both left right) (λ table. cat_made q table left right) words.old count words.new result }
+    ensures { NodeOn (Both left right) (λ table. cat_made q.number table left right) words.old count words.new result }
 {
-    if is_hole(&words[..], left, q) {
+    if is_hole(&words[..], left, q.number) {
         return Ok(Got { count, node: right });
     }
-    new_node(words, count, CONCATENATION, q, left, right, 0)
+    new_node(words, count, CONCATENATION, q.number, left, right, 0)
 }
 
 // The iteration over q; of the empty node, hole q.
-pub fn make_iter(words: &mut [u32], count: u32, q: u32, child: u32) -> Result<Got, Refused>
-    requires { q < state_width }
-    ensures { NodeOn (λ table. child < length table) (λ table. iter_made q table child) words.old count words.new result }
+pub fn make_iter(words: &mut [u32], count: u32, q: State, child: u32) -> Result<Got, Refused>
+    ensures { NodeOn (λ table. child < length table) (λ table. iter_made q.number table child) words.old count words.new result }
 {
     if is_empty(&words[..], child) {
-        return Ok(Got { count, node: q + 1 });
+        let node = q.number + 1;
+        return Ok(Got { count, node });
     }
-    new_node(words, count, ITERATION, q, child, 0, 0)
+    new_node(words, count, ITERATION, q.number, child, 0, 0)
 }

@@ -1,6 +1,5 @@
 // One state taken out of the row list. It may be any state.
 ghost use Rattle.std.specs.Prelude.{◌≡◌, ◌<◌, ◌≤◌, length};
-ghost use Rattle.sets.specs.Members.{state_width};
 ghost use Rattle.expressions.specs.Words.{node_in};
 ghost use Rattle.ground.specs.Lists.{those};
 ghost use Rattle.theory.specs.RowLists.{list_places};
@@ -9,6 +8,7 @@ ghost use Rattle.elimination.specs.Inside.{Both, NodeOn, StageOn, StagesOn, Work
 
 use crate::maker::Got;
 use crate::rows::{Rows, Staged};
+use crate::state::State;
 use crate::{maker, rows};
 use automaton::Refused;
 use ground::Wide;
@@ -53,21 +53,19 @@ pub fn join_rows(
 }
 
 // A, the looping rows joined, and then I, its iteration.
-fn loop_node(words: &mut [u32], count: u32, rows: &[NodeRow], q: u32) -> Result<Got, Refused>
-    requires { q < state_width }
-    ensures { NodeOn (NodeAndRows (hole_at q) rows.now) (λ table. loop_made q (stage_of table rows.now)) words.old count words.new result }
+fn loop_node(words: &mut [u32], count: u32, rows: &[NodeRow], q: State) -> Result<Got, Refused>
+    ensures { NodeOn (NodeAndRows (hole_at q.number) rows.now) (λ table. loop_made q.number (stage_of table rows.now)) words.old count words.new result }
 {
-    let a = join_rows(words, count, rows, Pick::Looping(q))?;
+    let a = join_rows(words, count, rows, Pick::Looping(q.number))?;
     maker::make_iter(words, a.count, q, a.node)
 }
 
 // After I also B, the incoming rows joined, and X, which stands in for q.
-fn stand_in(words: &mut [u32], count: u32, rows: &[NodeRow], q: u32) -> Result<Got, Refused>
-    requires { q < state_width }
-    ensures { NodeOn (NodeAndRows (hole_at q) rows.now) (λ table. stand_in_made q (stage_of table rows.now)) words.old count words.new result }
+fn stand_in(words: &mut [u32], count: u32, rows: &[NodeRow], q: State) -> Result<Got, Refused>
+    ensures { NodeOn (NodeAndRows (hole_at q.number) rows.now) (λ table. stand_in_made q.number (stage_of table rows.now)) words.old count words.new result }
 {
     let i = loop_node(words, count, rows, q)?;
-    let b = join_rows(words, i.count, rows, Pick::Incoming(q))?;
+    let b = join_rows(words, i.count, rows, Pick::Incoming(q.number))?;
     maker::make_cat(words, b.count, q, i.node, b.node)
 }
 
@@ -75,31 +73,29 @@ fn stand_in(words: &mut [u32], count: u32, rows: &[NodeRow], q: u32) -> Result<G
 fn replace(
     words: &mut [u32],
     count: u32,
-    q: u32,
+    q: State,
     standin: u32,
     row: NodeRow,
 ) -> Result<Got, Refused>
-    requires q_lt_state_width { q < state_width }
-    requires fact { row.target ≡ q → ⊥ }
-    ensures { NodeOn (Both row.node standin) (λ table. replaced_made q standin table row) words.old count words.new result }
+    requires { row.target ≡ q.number → ⊥ }
+    ensures { NodeOn (Both row.node standin) (λ table. replaced_made q.number standin table row) words.old count words.new result }
 {
     let node = row.node.wide();
-    if maker::opens(&words[..], node, q) {
+    if maker::opens(&words[..], node, q.number) {
         return maker::make_cat(words, count, q, node, standin);
     }
     Ok(Got { count, node })
 }
 
 // The outgoing rows of q replaced at their places; its looping and incoming rows go.
-fn replace_rows(words: &mut [u32], x: Got, rows: &[NodeRow], q: u32) -> Result<Staged, Refused>
-    requires few { length rows.now ≤ list_places }
-    requires q_lt_state_width { q < state_width }
-    ensures { StageOn (NodeAndRows x.node rows.now) (λ table. replaced_rows q x.node table (those (remains_node q table) rows.now)) words.old x.count words.new result }
+fn replace_rows(words: &mut [u32], x: Got, rows: &[NodeRow], q: State) -> Result<Staged, Refused>
+    requires { length rows.now ≤ list_places }
+    ensures { StageOn (NodeAndRows x.node rows.now) (λ table. replaced_rows q.number x.node table (those (remains_node q.number table) rows.now)) words.old x.count words.new result }
 {
     let mut list = Rows::new();
     let mut count = x.count;
     for &row in rows {
-        if row.target.wide() != q {
+        if row.target.wide() != q.number {
             let got = replace(words, count, q, x.node, row)?;
             count = got.count;
             list.push(rows::row(got.node, row.target));
@@ -109,9 +105,8 @@ fn replace_rows(words: &mut [u32], x: Got, rows: &[NodeRow], q: u32) -> Result<S
 }
 
 // State q taken out.
-pub fn take_out(words: &mut [u32], staged: &Staged, q: u32) -> Result<Staged, Refused>
-    requires { q < state_width }
-    ensures { StagesOn (λ stage. Workable stage × (hole_at q < length stage.table)) (eliminated_stage q) words.old staged.now words.new result }
+pub fn take_out(words: &mut [u32], staged: &Staged, q: State) -> Result<Staged, Refused>
+    ensures { StagesOn (λ stage. Workable stage × (hole_at q.number < length stage.table)) (eliminated_stage q.number) words.old staged.now words.new result }
 {
     let listed = staged.list.rows();
     let x = stand_in(words, staged.count, listed, q)?;
