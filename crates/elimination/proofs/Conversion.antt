@@ -1,23 +1,20 @@
 -- The parts of a conversion one after the other: the start, the states, the join.
 use Prim.Native.Nat.{ℕ, suc, ◌+◌, ◌<◌, ◌≤◌}
 use native.Mathlib.Omega.{arith}
-use mathlib.Core.Path.{◌≡◌, sym, ◌∙◌, ap, ap₂, subst}
-use mathlib.Core.Bool.{false}
+use mathlib.Core.Path.{◌≡◌, ◌∙◌, ap, ap₂, subst}
 use mathlib.Core.List.{List}
-use mathlib.Core.Logic.{◌⊎◌, inl, inr}
 use lib.ListN.{length}
 use Rattle.std.specs.Prelude.{Result}
 use Rattle.automaton.specs.declared.Refused.{Refused}
 use Rattle.sets.specs.Members.{state_width}
-use Rattle.ground.specs.Lists.{All, those}
 use Rattle.ground.proofs.Lists.{to-all}
 use Rattle.automaton.specs.declared.Automaton.{Automaton}
 use Rattle.automaton.specs.Held.{Held, Valid}
 use Rattle.automaton.specs.Answers.{held_by}
 use Rattle.automaton.specs.Handed.{Handed}
 use Rattle.theory.specs.declared.NodeRow.{NodeRow}
-use Rattle.theory.specs.RowLists.{ascending, final_states, final_target, list_places}
-use Rattle.theory.specs.Stages.{Made, holes_table, rules_table, start_table, rule_rows, start, eliminated_stages, stage_after, join_stage, converted}
+use Rattle.theory.specs.RowLists.{ascending, final_states, list_places}
+use Rattle.theory.specs.Stages.{Made, holes_table, rules_table, start_table, rule_rows, start, eliminated_stages, stage_after, converted}
 use Rattle.theory.proofs.Nodes.Grows.{grown-longer, rules-grow, stages-grow, join_stage-grows}
 use Rattle.theory.proofs.Nodes.StartTable.{start-mirrors, holes-table}
 use Rattle.theory.proofs.Counting.Bound.{start-room, start_rows, rule_rows-count, finals-few}

@@ -1,7 +1,6 @@
 -- Joining, row by row.
 use Prim.Native.Nat.{ℕ, ◌+◌, ◌<◌, ◌≤◌}
 use native.Mathlib.Omega.{arith}
-use native.Mathlib.Nat.{mod-lt}
 use mathlib.Core.Path.{◌≡◌, refl, sym, ◌∙◌, ap, ap₂, subst}
 use mathlib.Core.Bool.{Bool, true, false, cond, not, ◌&&◌}
 use mathlib.Core.List.{List, [], ◌∷◌}
@@ -11,18 +10,14 @@ use lib.Seq.{drop-cons}
 use Rattle.std.specs.Prelude.{Ok, Err}
 use Rattle.automaton.specs.declared.Refused.{Refused}
 use lib.Dec.{eqb}
-use borrow.Author.Tests.{eq-eqb, ne_eqb}
 use Rattle.std.proofs.lemmas.List.{drop_all}
-use Rattle.sets.specs.Members.{has, state_width, of_word}
+use Rattle.sets.specs.Members.{has, state_width}
 use Rattle.sets.proofs.Membership.{has-cut}
-use Rattle.sets.proofs.Bits.{has-high}
 use Rattle.ground.specs.Lists.{All, those}
 use Rattle.ground.proofs.Lists.{to-all, all-at}
-use Rattle.expressions.specs.declared.Node.{Node}
 use Rattle.expressions.specs.Nodes.{Table, node_at}
 use Rattle.expressions.specs.Words.{node_in}
 use Rattle.theory.specs.declared.NodeRow.{NodeRow}
-use Rattle.theory.specs.RowLists.{final_target}
 use Rattle.theory.specs.Stages.{Stage, Made, already, nodes, alt_made, join_made_from, join_made, join_stage, looping_node, incoming_node}
 use Rattle.theory.proofs.Nodes.Grows.{Grown, grown-none, grown-then, grown-longer, grown-node, alt-grows, join_from-grows}
 use Rattle.elimination.specs.declared.maker.Got.{Got}

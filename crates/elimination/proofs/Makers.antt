@@ -9,7 +9,6 @@ use lib.ListN.{length, drop}
 use lib.Seq.{drop-drop}
 use lib.Dec.{eqb}
 use Rattle.std.specs.Prelude.{Result, Ok, Err}
-use borrow.Author.Tests.{eq-eqb, ne_eqb}
 use Rattle.sets.specs.Members.{has, of_word, how_many, size, state_width}
 use Rattle.sets.proofs.Membership.{has-cut}
 use Rattle.automaton.specs.declared.Refusal.{Refusal}
@@ -30,7 +29,7 @@ use Rattle.theory.proofs.Nodes.StartTable.{with-length}
 use Rattle.theory.proofs.Nodes.Turns.{alt-left-empty, alt-right-empty, alt-new, cat-hole, cat-new, iter-empty, iter-new}
 use Rattle.elimination.specs.declared.maker.Got.{Got}
 use Rattle.elimination.specs.Answers.{written_to}
-use Rattle.elimination.specs.Inside.{Both, NoRoom, HasTable, HasNode, GivesNode, NodeOn}
+use Rattle.elimination.specs.Inside.{Both, HasTable, HasNode, GivesNode, NodeOn}
 use Rattle.elimination.proofs.Room.{written-length, written-node}
 
 -- ---- what a maker goes on from

@@ -2,7 +2,7 @@
 use Prim.Native.Nat.{ℕ, ◌<◌}
 use native.Mathlib.Omega.{arith}
 use mathlib.Core.Path.{◌≡◌, refl, sym, ◌∙◌, ap, ap₂, subst}
-use mathlib.Core.Bool.{Bool, true, false, not, ◌&&◌}
+use mathlib.Core.Bool.{Bool, not, ◌&&◌}
 use mathlib.Core.List.{List, [], ◌∷◌}
 use lib.ListN.{length}
 use lib.Dec.{eqb}
@@ -14,7 +14,7 @@ use Rattle.ground.proofs.Lists.{all_map, to-all, those-all}
 use Rattle.expressions.specs.declared.Node.{Node}
 use Rattle.expressions.specs.Nodes.{Table}
 use Rattle.theory.specs.declared.NodeRow.{NodeRow}
-use Rattle.theory.specs.Stages.{Stage, Made, already, hole_at, cat_made, iter_made, join_made, nodes, looping_node, incoming_node, remains_node, stand_in_made, replaced_made, replaced_rows, eliminated_stage}
+use Rattle.theory.specs.Stages.{Stage, Made, hole_at, cat_made, iter_made, join_made, nodes, looping_node, incoming_node, remains_node, stand_in_made, replaced_made, replaced_rows, eliminated_stage}
 use Rattle.theory.proofs.Nodes.Grows.{Grown, grown-then, grown-longer, grown-node, cat-grows, iter-grows, join-grows, stand_in-grows, replaced-grows, rows_grow}
 use Rattle.theory.proofs.Nodes.Turns.{remains-other}
 use Rattle.theory.proofs.Nodes.Mirror.{Low}

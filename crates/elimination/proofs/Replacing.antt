@@ -81,7 +81,7 @@ module _ (q X : ℕ) (rows : List NodeRow) (first : List ℕ) (begun : ℕ) wher
       }
 
   module _ (words : List ℕ) (kept : List NodeRow) (count i : ℕ) (l : ReplaceLoop q X rows first begun words kept count i) where
-    pub replace-end : length rows ≤ i →  (before : List ℕ) (table : Table) → HasTable before table first begun → NodeAndRows X rows table
+    pub replace-end : length rows ≤ i → (before : List ℕ) (table : Table) → HasTable before table first begun → NodeAndRows X rows table
         → HasStage before (replaced_rest q X table table rows) words (record { count = count; list = kept })
     unfolding replaced_rows those
     replace-end h before table g s =

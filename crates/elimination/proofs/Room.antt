@@ -7,7 +7,6 @@ use lib.ListN.{length, drop, length-append, length-drop}
 use Rattle.automaton.specs.declared.Refused.{Refused}
 use Rattle.expressions.specs.Nodes.{Table, node_at}
 use Rattle.expressions.specs.Words.{node_width, node_in, table_of, words_of}
-use Rattle.expressions.specs.Soundness.{most_nodes}
 use Rattle.expressions.proofs.Words.{length-words, table-words, node-whole, table_at}
 use Rattle.theory.proofs.Nodes.Grows.{Grown, grown-longer}
 use Rattle.elimination.specs.Answers.{written_to}

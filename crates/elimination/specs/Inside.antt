@@ -1,7 +1,7 @@
 -- What the private functions of a conversion promise one another. The public promises cite none of it.
 --
 -- Which row is which: a `Rule` is a row of the file, and `Row` is how an automaton's value has it. A `NodeRow` is a row of the list, a node and a target; it stands in a place of the list. A `ListRow` is a row of the list as it is reported.
-use Rattle.std.specs.Prelude.{ℕ, suc, ◌*◌, ◌≤◌, ◌<◌, ◌≡◌, Bool, true, cond, not, ◌&&◌, eqb, ltb, List, map, length, get_or, take, Result, MatchResult}
+use Rattle.std.specs.Prelude.{ℕ, suc, ◌*◌, ◌≤◌, ◌<◌, ◌≡◌, Bool, true, cond, not, ◌&&◌, eqb, ltb, List, map, length, get_or, Result, MatchResult}
 use Rattle.sets.specs.Members.{has, size, state_width, of_word}
 use Rattle.ground.specs.Lists.{All, filled, those}
 use Rattle.automaton.specs.declared.Row.{Row}

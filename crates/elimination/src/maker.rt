@@ -10,14 +10,20 @@ ghost use Rattle.elimination.specs.Inside.{Both, NodeOn, open_in};
 
 use crate::state::State;
 use automaton::Refused;
+use expressions::Node;
 use sets::StateSet;
 
 // The kinds of nodes. A table has them as numbers (7.2), and so do the definitions: an enum would be cast at every use.
 pub const EMPTY: u32 = 0;
+
 pub const HOLE: u32 = 1;
+
 pub const SYMBOL: u32 = 2;
+
 const ALTERNATION: u32 = 3;
+
 const CONCATENATION: u32 = 4;
+
 const ITERATION: u32 = 5;
 
 // What a maker made: the number of nodes, and the node that was asked for.
@@ -27,32 +33,39 @@ pub struct Got {
     pub node: u32,
 }
 
+// The node at a number.
+fn node_at(words: &[u32], node: u32) -> Node
+    ensures { result ≡ node_in words.now node }
+{
+    expressions::node_at(words, node as usize)
+}
+
 // Is state q open in the node?
 pub fn opens(words: &[u32], node: u32, q: u32) -> bool
     ensures { result ≡ open_in q (node_in words.now node) }
 {
-    StateSet::of_word(expressions::node_at(words, node as usize).opens).has(q)
+    StateSet::of_word(node_at(words, node).opens).has(q)
 }
 
 // For how many different states the node waits.
 pub fn waits(words: &[u32], node: u32) -> u32
     ensures { result ≡ size state_width (node_in words.now node).opens }
 {
-    StateSet::of_word(expressions::node_at(words, node as usize).opens).count()
+    StateSet::of_word(node_at(words, node).opens).count()
 }
 
 // Is the node empty?
 fn is_empty(words: &[u32], node: u32) -> bool
     ensures { result ≡ eqb (node_in words.now node).shape.kind 0 }
 {
-    expressions::node_at(words, node as usize).shape.kind == EMPTY
+    node_at(words, node).shape.kind == EMPTY
 }
 
 // Is the node hole q?
 fn is_hole(words: &[u32], node: u32, q: u32) -> bool
     ensures { result ≡ (eqb (node_in words.now node).shape.kind 1 && eqb q (node_in words.now node).shape.label) }
 {
-    let shape = expressions::node_at(words, node as usize).shape;
+    let shape = node_at(words, node).shape;
     shape.kind == HOLE && shape.label == q
 }
 

@@ -24,9 +24,9 @@ returns-in_err-count c =
     let p = err_from_is_err_and c.from_residual.result c.from_residual.ensures.1 in
     rw (p.1, p.2)
     (elim c.if-is_err.branch [
-        then-is_err w ↦
-            rw (w.nodes-is, w.zero.ensures)
-            (partly-short (held_by a.value) a.k a.nodes.now (omega (arith, c.wide.ensures, states-same a.value c.requires)) f.field-0.0 (rw f.was at m.ensures) m.new.words m.auto.words)
+      | then-is_err w ↦
+          rw (w.nodes-is, w.zero.ensures)
+          (partly-short (held_by a.value) a.k a.nodes.now (omega (arith, c.wide.ensures, states-same a.value c.requires)) f.field-0.0 (rw f.was at m.ensures) m.new.words m.auto.words)
       | else-is_err w ↦ absurd (true≢false (sym (c.is_err.ensures.value ∙ ap is_err f.was) ∙ w.if-is_err.false))
     ])
 
@@ -38,9 +38,9 @@ returns c =
     let h = c.if-wide-k.false in
     let rows = c.rows-rows.ensures.rows in
     elim c.if-is_err.branch [
-        then-is_err w ↦ absurd (true≢false (sym w.if-is_err.true ∙ c.is_err.ensures.value ∙ ap is_err o.was))
+      | then-is_err w ↦ absurd (true≢false (sym w.if-is_err.true ∙ c.is_err.ensures.value ∙ ap is_err o.was))
       | else-is_err w ↦
-            rw (w.nodes-is, rows)
-            (partly-stopped (held_by a.value) a.k a.nodes.now (omega (arith, c.wide.ensures, states-same a.value c.requires)) m.new.words o.field-0 (rw o.was at m.ensures) c.list_rows.result
-            (c.list_rows.ensures ∙ rw (w.nodes-is, rows) refl))
+          rw (w.nodes-is, rows)
+          (partly-stopped (held_by a.value) a.k a.nodes.now (omega (arith, c.wide.ensures, states-same a.value c.requires)) m.new.words o.field-0 (rw o.was at m.ensures) c.list_rows.result
+          (c.list_rows.ensures ∙ rw (w.nodes-is, rows) refl))
     ]

@@ -12,9 +12,9 @@ loop-q-preserved c =
     let a = c.args in
     let l = c.loop-q in
     elim c.if-has.branch [
-        then-has w ↦
-            let n = c.requires.n_le_state_width in
-            let t = c.loop-q-test.true in
-            rw (w.list-is, w.push.ensures) (finals-take a.list.now a.finals.0 l.list l.q l.invariant (omega arith) (sym w.if-has.ensures) w.row.result w.row.ensures)
+      | then-has w ↦
+          let n = c.requires.n_le_state_width in
+          let t = c.loop-q-test.true in
+          rw (w.list-is, w.push.ensures) (finals-take a.list.now a.finals.0 l.list l.q l.invariant (omega arith) (sym w.if-has.ensures) w.row.result w.row.ensures)
       | else-has w ↦ rw w.list-is (finals-skip a.list.now a.finals.0 l.list l.q l.invariant (sym w.if-has.ensures))
     ]

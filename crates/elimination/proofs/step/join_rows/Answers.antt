@@ -1,4 +1,4 @@
-use mathlib.Core.Path.{refl, sym}
+use mathlib.Core.Path.{refl}
 use Rattle.std.proofs.lemmas.Result.{err_from_is_err_and}
 use Rattle.elimination.proofs.Joining.{join-end, join-full, join-next, join-passed, join-start}
 use Rattle.elimination.proofs.step.join_rows.Goals as goal
@@ -23,13 +23,13 @@ loop-row-preserved c =
     let a = c.args in
     let l = c.loop-row in
     elim c.if-picked.branch [
-        then-picked+in_ok-got w ↦
-            rw (w.words-is, w.got-is)
-            (join-next a.pick a.rows.now a.words.now a.count l.words l.got l.row-index l.invariant c.loop-row-test.true _ refl c.picked.result c.picked.ensures w.if-picked.true w.make_alt.new.words w.in_ok-got.got
-            (rw w.wide.ensures at w.in_ok-got.ensures))
+      | then-picked+in_ok-got w ↦
+          rw (w.words-is, w.got-is)
+          (join-next a.pick a.rows.now a.words.now a.count l.words l.got l.row-index l.invariant c.loop-row-test.true _ refl c.picked.result c.picked.ensures w.if-picked.true w.make_alt.new.words w.in_ok-got.got
+          (rw w.wide.ensures at w.in_ok-got.ensures))
       | else-picked w ↦
-            rw (w.words-is, w.got-is)
-            (join-passed a.pick a.rows.now a.words.now a.count l.words l.got l.row-index l.invariant c.loop-row-test.true _ refl c.picked.result c.picked.ensures w.if-picked.false)
+          rw (w.words-is, w.got-is)
+          (join-passed a.pick a.rows.now a.words.now a.count l.words l.got l.row-index l.invariant c.loop-row-test.true _ refl c.picked.result c.picked.ensures w.if-picked.false)
     ]
 
 pub returns : goal.returns

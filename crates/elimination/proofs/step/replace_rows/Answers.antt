@@ -30,12 +30,12 @@ loop-row-preserved c =
     let a = c.args in
     let l = c.loop-row in
     elim c.if-wide-q.branch [
-        then-wide-q+in_ok-got w ↦
-            rw (w.words-is, w.list-is, w.count-is, w.push.ensures)
-            (replace-more a.q.number a.x.node a.rows.now a.words.now a.x.count l.words l.list l.count l.row-index l.invariant c.loop-row-test.true _ refl (λ e. w.if-wide-q.true (c.wide.ensures ∙ e)) w.replace.new.words w.in_ok-got.got w.in_ok-got.ensures w.row.result w.row.ensures)
+      | then-wide-q+in_ok-got w ↦
+          rw (w.words-is, w.list-is, w.count-is, w.push.ensures)
+          (replace-more a.q.number a.x.node a.rows.now a.words.now a.x.count l.words l.list l.count l.row-index l.invariant c.loop-row-test.true _ refl (λ e. w.if-wide-q.true (c.wide.ensures ∙ e)) w.replace.new.words w.in_ok-got.got w.in_ok-got.ensures w.row.result w.row.ensures)
       | else-wide-q w ↦
-            rw (w.words-is, w.list-is, w.count-is)
-            (replace-gone a.q.number a.x.node a.rows.now a.words.now a.x.count l.words l.list l.count l.row-index l.invariant c.loop-row-test.true _ refl (sym c.wide.ensures ∙ w.if-wide-q.false))
+          rw (w.words-is, w.list-is, w.count-is)
+          (replace-gone a.q.number a.x.node a.rows.now a.words.now a.x.count l.words l.list l.count l.row-index l.invariant c.loop-row-test.true _ refl (sym c.wide.ensures ∙ w.if-wide-q.false))
     ]
 
 pub returns : goal.returns
