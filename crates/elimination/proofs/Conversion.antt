@@ -17,12 +17,12 @@ use Rattle.theory.specs.RowLists.{ascending, final_states, list_places}
 use Rattle.theory.specs.Stages.{Made, holes_table, rules_table, start_table, rule_rows, start, eliminated_stages, stage_after, converted}
 use Rattle.theory.proofs.Nodes.Grows.{grown-longer, rules-grow, stages-grow, join_stage-grows}
 use Rattle.theory.proofs.Nodes.StartTable.{start-mirrors, holes-table}
-use Rattle.theory.proofs.Counting.Bound.{start-room, start_rows, rule_rows-count, finals-few}
+use Rattle.theory.proofs.Counting.Bound.{start-room, rule_rows-count}
 use Rattle.theory.proofs.Theorem.{partly-ascending}
 use Rattle.elimination.specs.declared.maker.Got.{Got}
 use Rattle.elimination.specs.declared.step.Pick.TheVariants.{Every}
 use Rattle.elimination.specs.declared.rows.Staged.{Staged}
-use Rattle.elimination.specs.Inside.{NodeAndRows, NoRoom, HasTable, HasStage, GivesTable, GivesNode, GivesStage, NodeOn, TableOn, StagesOn, Workable, LowRows, stage_of, picked_made}
+use Rattle.elimination.specs.Inside.{NodeAndRows, NoRoom, HasTable, HasStage, GivesTable, GivesNode, GivesStage, NodeOn, TableOn, StagesOn, NodeAndStage, LowRows, stage_of, picked_made}
 use Rattle.elimination.proofs.Room.{less-room}
 use Rattle.elimination.proofs.Joining.{picked-every}
 use Rattle.elimination.proofs.Starting.{states-same, finals-same, with_finals}
@@ -61,15 +61,11 @@ module _ (value : Automaton) (handed : Handed value) where
 
 -- ---- the states
 
-start-sorted : (held : Held) → Valid held → Workable (start held)
-start-sorted held v =
-    record { few = (let a = v.few_rules in let b = finals-few held in let c = v.few_states in omega (arith, start_rows held)); low = (start-mirrors held v).low }
-
 module _ (held : Held) (v : Valid held) (before w1 : List ℕ) (k : ℕ) (h : k ≤ held.states) where
   pub partly-gives : (begun : Staged) → HasStage before (start held) w1 begun → (w2 : List ℕ) (r : Result Staged Refused)
-      → StagesOn (λ stage. Workable stage × (k < length stage.table)) (eliminated_stages (ascending k)) w1 begun w2 r → GivesStage before (stage_after k held) w2 r
+      → StagesOn (NodeAndStage k) (eliminated_stages (ascending k)) w1 begun w2 r → GivesStage before (stage_after k held) w2 r
   unfolding stage_after
-  partly-gives begun g w2 r x = x before (start held) g (start-sorted held v, omega (arith, start-room held v))
+  partly-gives begun g w2 r x = x before (start held) g (omega (arith, start-room held v), (start-mirrors held v).low)
 
   pub partly-full : (reason : Refused) → NoRoom before (start held).table reason → NoRoom before (stage_after k held).table reason
   unfolding stage_after

@@ -19,11 +19,10 @@ use Rattle.theory.proofs.Nodes.Grows.{Grown, grown-then, grown-longer, grown-nod
 use Rattle.theory.proofs.Nodes.Turns.{remains-other}
 use Rattle.theory.proofs.Nodes.Mirror.{Low}
 use Rattle.theory.proofs.Nodes.MirrorRows.{low-nodes, low-rows-grown}
-use Rattle.theory.proofs.Counting.Bound.{step-rows}
 use Rattle.elimination.specs.declared.maker.Got.{Got}
 use Rattle.elimination.specs.declared.step.Pick.TheVariants.{Looping, Incoming}
 use Rattle.elimination.specs.declared.rows.Staged.{Staged}
-use Rattle.elimination.specs.Inside.{Both, NodeAndRows, NoRoom, HasTable, HasNode, HasStage, GivesNode, NodeOn, LowRows, stage_of, GivesStage, Workable, StageOn, StagesOn, picks, picked_made, loop_made}
+use Rattle.elimination.specs.Inside.{Both, NodeAndRows, NoRoom, HasTable, HasNode, HasStage, GivesNode, NodeOn, LowRows, stage_of, GivesStage, NodeAndStage, StageOn, StagesOn, picks, picked_made, loop_made}
 use Rattle.elimination.proofs.Room.{less-room}
 use Rattle.elimination.proofs.Makers.{cat-low, iter-low, join-low}
 use Rattle.elimination.proofs.Joining.{those-same, picks-looping, picks-incoming}
@@ -168,17 +167,13 @@ rows-low q X table (row ∷ rows) h_x low =
 stand_in-low : (q : ℕ) → q < state_width → (stage : Stage) → hole_at q < length stage.table → LowRows stage.rows stage.table → (stand_in_made q stage).node < length (stand_in_made q stage).table
 stand_in-low q hq stage h low = rw (← (stand_in-is q hq stage low)) (cat-low q (B-made q stage).table (loop_made q stage).node (B-made q stage).node (B-low q stage h low))
 
--- a stage that a state was taken out of is such a stage again
-pub eliminated-workable : (q : ℕ) → q < state_width → (stage : Stage) → hole_at q < length stage.table → Workable stage → Workable (eliminated_stage q stage)
+-- the rows of a stage that a state was taken out of are nodes of its table again
+pub eliminated-low : (q : ℕ) → q < state_width → (stage : Stage) → NodeAndStage (hole_at q) stage → LowRows (eliminated_stage q stage).rows (eliminated_stage q stage).table
 unfolding eliminated_stage
-eliminated-workable q hq stage h s =
-    record {
-      few = (let f = s.few in let r = step-rows q stage in omega arith);
-      low =
-          rows-low q (stand_in_made q stage).node (stand_in_made q stage).table (those (remains_node q stage.table) stage.rows) (stand_in-low q hq stage h s.low)
-          (low-rows-grown (stand_in-grows q stage) (those (remains_node q stage.table) stage.rows)
-          (those-all (λ row. row.node < length stage.table) (remains_node q stage.table) stage.rows s.low));
-    }
+eliminated-low q hq stage s =
+    rows-low q (stand_in_made q stage).node (stand_in_made q stage).table (those (remains_node q stage.table) stage.rows) (stand_in-low q hq stage s.0 s.1)
+    (low-rows-grown (stand_in-grows q stage) (those (remains_node q stage.table) stage.rows)
+    (those-all (λ row. row.node < length stage.table) (remains_node q stage.table) stage.rows s.1))
 
 -- the rows that stay, by the table that X left and by the stage's own
 rows-stay : (q : ℕ) (stage : Stage) → replaced_rows q (stand_in_made q stage).node (stand_in_made q stage).table (those (remains_node q (stand_in_made q stage).table) stage.rows) ≡ eliminated_stage q stage
@@ -187,15 +182,15 @@ rows-stay q stage = let X = stand_in_made q stage in ap (replaced_rows q X.node 
 
 module _ (q : ℕ) (hq : q < state_width) (words : List ℕ) (staged : Staged) (w1 : List ℕ) where
   -- the rows that were listed are the stage's
-  module _ (before : List ℕ) (stage : Stage) (h : HasStage before stage words staged) (s : Workable stage × (hole_at q < length stage.table)) where
+  module _ (before : List ℕ) (stage : Stage) (h : HasStage before stage words staged) (s : NodeAndStage (hole_at q) stage) where
     stage-is : stage_of stage.table staged.list ≡ stage
     stage-is = ap (stage_of stage.table) h.listed
 
     suits : NodeAndRows (hole_at q) staged.list stage.table
-    suits = (s.1, rw h.listed s.0.low)
+    suits = (s.0, rw h.listed s.1)
 
   pub out-full : (reason : Refused) → NodeOn (NodeAndRows (hole_at q) staged.list) (λ table. stand_in_made q (stage_of table staged.list)) words staged.count w1 (Err reason)
-      → StagesOn (λ stage. Workable stage × (hole_at q < length stage.table)) (eliminated_stage q) words staged w1 (Err reason)
+      → StagesOn (NodeAndStage (hole_at q)) (eliminated_stage q) words staged w1 (Err reason)
   out-full reason xx before stage h s =
       let X = stand_in_made q stage in
       less-room (subst (λ (t : Stage). Grown X.table t.table) (rows-stay q stage) (rows_grow q X.node X.table (those (remains_node q X.table) stage.rows)))
@@ -204,12 +199,12 @@ module _ (q : ℕ) (hq : q < state_width) (words : List ℕ) (staged : Staged) (
   module _ (x : Got) (xx : NodeOn (NodeAndRows (hole_at q) staged.list) (λ table. stand_in_made q (stage_of table staged.list)) words staged.count w1 (Ok x))
       (w2 : List ℕ) (r : Result Staged Refused)
       (xr : StageOn (NodeAndRows x.node staged.list) (λ table. replaced_rows q x.node table (those (remains_node q table) staged.list)) w1 x.count w2 r) where
-    pub taken_out : StagesOn (λ stage. Workable stage × (hole_at q < length stage.table)) (eliminated_stage q) words staged w2 r
+    pub taken_out : StagesOn (NodeAndStage (hole_at q)) (eliminated_stage q) words staged w2 r
     taken_out before stage h s =
         let X = stand_in_made q stage in
         let got : HasNode before X w1 x = subst (λ (t : Stage). HasNode before (stand_in_made q t) w1 x) (stage-is before stage h s) (xx before stage.table h.has (suits before stage h s)) in
-        let low = stand_in-low q hq stage s.1 s.0.low in
+        let low = stand_in-low q hq stage s.0 s.1 in
         let e : replaced_rows q x.node X.table (those (remains_node q X.table) staged.list) ≡ eliminated_stage q stage =
         ap₂ (λ (n : ℕ) (rows : List NodeRow). replaced_rows q n X.table (those (remains_node q X.table) rows)) got.node h.listed ∙ rows-stay q stage in
         subst (λ (t : Stage). GivesStage before t w2 r) e
-        (xr before X.table got.has (omega (arith, got.node), rw h.listed (low-rows-grown (stand_in-grows q stage) stage.rows s.0.low)))
+        (xr before X.table got.has (omega (arith, got.node), rw h.listed (low-rows-grown (stand_in-grows q stage) stage.rows s.1)))

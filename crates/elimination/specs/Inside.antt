@@ -85,6 +85,9 @@ Both a b table = (a < length table) × (b < length table)
 abbrev pub NodeAndRows : ℕ → List NodeRow → Table → Type 0
 NodeAndRows node rows table = (node < length table) × LowRows rows table
 
+abbrev pub NodeAndStage : ℕ → Stage → Type 0
+NodeAndStage node stage = NodeAndRows node stage.rows stage.table
+
 -- ---- makers of rows
 
 -- the words have the table of a stage, and these are its rows
@@ -95,11 +98,6 @@ pub record HasStage (before : List ℕ) (stage : Stage) (after : List ℕ) (stag
 -- so it is; or there is no room for the table
 abbrev pub GivesStage : List ℕ → Stage → List ℕ → Result Staged Refused → Type 0
 GivesStage before stage after r = MatchResult r (HasStage before stage after) (NoRoom before stage.table)
-
--- a stage that a state may be taken out of: few rows, whose nodes the table has
-pub record Workable (stage : Stage) : Type 0 where
-  pub few : length stage.rows ≤ list_places
-  pub low : LowRows stage.rows stage.table
 
 -- what a maker of rows promises that goes on from a table, or from what another maker of rows gave
 abbrev pub StageOn : (Table → Type 0) → (Table → Stage) → List ℕ → ℕ → List ℕ → Result Staged Refused → Type 0

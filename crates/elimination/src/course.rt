@@ -1,11 +1,11 @@
 // The course of a conversion: the start, the states, the join.
-ghost use Rattle.std.specs.Prelude.{◌<◌, ◌≤◌, length};
+ghost use Rattle.std.specs.Prelude.{◌≤◌};
 ghost use Rattle.sets.specs.Members.{state_width};
 ghost use Rattle.automaton.specs.Answers.{held_by};
 ghost use Rattle.automaton.specs.Handed.{Handed};
 ghost use Rattle.theory.specs.RowLists.{ascending};
 ghost use Rattle.theory.specs.Stages.{eliminated_stages, stage_after, converted};
-ghost use Rattle.elimination.specs.Inside.{GivesNode, GivesStage, StagesOn, Workable};
+ghost use Rattle.elimination.specs.Inside.{GivesNode, GivesStage, NodeAndStage, StagesOn};
 
 use crate::maker::Got;
 use crate::rows::Staged;
@@ -18,7 +18,7 @@ use ground::Wide;
 // The first k states taken out, the lowest first.
 fn take_first(words: &mut [u32], begun: Staged, k: u32) -> Result<Staged, Refused>
     requires { k ≤ state_width }
-    ensures { StagesOn (λ stage. Workable stage × (k < length stage.table)) (eliminated_stages (ascending k)) words.old begun words.new result }
+    ensures { StagesOn (NodeAndStage k) (eliminated_stages (ascending k)) words.old begun words.new result }
 {
     let mut staged = begun;
     for number in 0..k {

@@ -4,7 +4,7 @@ ghost use Rattle.expressions.specs.Words.{node_in};
 ghost use Rattle.ground.specs.Lists.{those};
 ghost use Rattle.theory.specs.RowLists.{list_places};
 ghost use Rattle.theory.specs.Stages.{hole_at, replaced_made, replaced_rows, remains_node, stand_in_made, eliminated_stage};
-ghost use Rattle.elimination.specs.Inside.{Both, NodeOn, StageOn, StagesOn, Workable, NodeAndRows, stage_of, picked_by, picked_made, loop_made};
+ghost use Rattle.elimination.specs.Inside.{Both, NodeOn, StageOn, StagesOn, NodeAndRows, NodeAndStage, stage_of, picked_by, picked_made, loop_made};
 
 use crate::maker::Got;
 use crate::rows::{Rows, Staged};
@@ -106,7 +106,7 @@ fn replace_rows(words: &mut [u32], x: Got, rows: &[NodeRow], q: State) -> Result
 
 // State q taken out.
 pub fn take_out(words: &mut [u32], staged: &Staged, q: State) -> Result<Staged, Refused>
-    ensures { StagesOn (λ stage. Workable stage × (hole_at q.number < length stage.table)) (eliminated_stage q.number) words.old staged.now words.new result }
+    ensures { StagesOn (NodeAndStage (hole_at q.number)) (eliminated_stage q.number) words.old staged.now words.new result }
 {
     let listed = staged.list.rows();
     let x = stand_in(words, staged.count, listed, q)?;
