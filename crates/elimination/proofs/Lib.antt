@@ -1,7 +1,6 @@
--- room in the lent words, the makers of nodes, and the row list
+-- room in the lent words, and the makers of nodes
 pub mod Room
 pub mod Makers
-pub mod RowList
 -- the start
 pub mod Starting
 -- one state

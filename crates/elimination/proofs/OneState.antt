@@ -2,35 +2,33 @@
 use Prim.Native.Nat.{ℕ, ◌<◌}
 use native.Mathlib.Omega.{arith}
 use mathlib.Core.Path.{◌≡◌, refl, sym, ◌∙◌, ap, ap₂, subst}
-use mathlib.Core.Bool.{Bool, true, false, not, ◌&&◌}
+use mathlib.Core.Bool.{Bool, not, ◌&&◌}
 use mathlib.Core.List.{List, [], ◌∷◌}
 use lib.ListN.{length}
 use lib.Dec.{eqb}
+use Rattle.std.specs.Prelude.{Result, Ok, Err}
+use Rattle.automaton.specs.declared.Refused.{Refused}
 use Rattle.sets.specs.Members.{has, state_width}
 use Rattle.ground.specs.Lists.{those}
 use Rattle.ground.proofs.Lists.{all_map, to-all, those-all}
 use Rattle.expressions.specs.declared.Node.{Node}
 use Rattle.expressions.specs.Nodes.{Table}
 use Rattle.theory.specs.declared.NodeRow.{NodeRow}
-use Rattle.theory.specs.Stages.{Stage, Made, already, hole_at, cat_made, iter_made, join_made, nodes, looping_node, incoming_node, remains_node, stand_in_made, replaced_made, replaced_rows, eliminated_stage}
+use Rattle.theory.specs.Stages.{Stage, Made, hole_at, cat_made, iter_made, join_made, nodes, looping_node, incoming_node, remains_node, stand_in_made, replaced_made, replaced_rows, eliminated_stage}
 use Rattle.theory.proofs.Nodes.Grows.{Grown, grown-then, grown-longer, grown-node, cat-grows, iter-grows, join-grows, stand_in-grows, replaced-grows, rows_grow}
 use Rattle.theory.proofs.Nodes.Turns.{remains-other}
 use Rattle.theory.proofs.Nodes.Mirror.{Low}
 use Rattle.theory.proofs.Nodes.MirrorRows.{low-nodes, low-rows-grown}
-use Rattle.theory.proofs.Counting.Bound.{step-rows}
 use Rattle.elimination.specs.declared.maker.Got.{Got}
-use Rattle.elimination.specs.declared.rows.Rows.{Rows}
+use Rattle.elimination.specs.declared.step.Pick.TheVariants.{Looping, Incoming}
 use Rattle.elimination.specs.declared.rows.Staged.{Staged}
-use Rattle.elimination.specs.Inside.{Ready, GivesNode, GoesOn, rows_in, LowRows, stage_of, GivesStage, Workable, RowsOn, StagesOn, picks, picked_made, loop_made}
-use Rattle.elimination.proofs.Room.{ready-less, dec-ready}
-use Rattle.elimination.proofs.Makers.{gives_other, cat-low, iter-low, join-low}
+use Rattle.elimination.specs.Inside.{Both, NodeAndRows, NoRoom, HasTable, HasNode, HasStage, GivesNode, NodeOn, LowRows, stage_of, GivesStage, NodeAndStage, StageOn, StagesOn, picks, picked_made, loop_made}
+use Rattle.elimination.proofs.Room.{less-room}
+use Rattle.elimination.proofs.Makers.{cat-low, iter-low, join-low}
 use Rattle.elimination.proofs.Joining.{those-same, picks-looping, picks-incoming}
 use Rattle.elimination.proofs.Replacing.{replaced-low}
 
 -- ---- A and I
-
-abbrev LoopSuits : ℕ → Rows → Made → Type 0
-LoopSuits q list made = (hole_at q < length made.table) × LowRows (rows_in list) made.table
 
 -- A, by the rows' table
 A-made : ℕ → Stage → Made
@@ -53,21 +51,31 @@ loop-low q stage h = rw (loop-is q stage) (let l = grown-longer (A-grows q stage
 low_of : (test : NodeRow → Bool) (rows : List NodeRow) (table : Table) → LowRows rows table → Low table (nodes (those test rows))
 low_of test rows table low = low-nodes table (those test rows) (those-all (λ row. row.node < length table) test rows low)
 
-module _ (q : ℕ) (hq : q < state_width) (list : Rows) (words : List ℕ) (last : Got) where
-  pub loop-node : (w1 : List ℕ) (a : Got) → GoesOn (λ made. (0 < length made.table) × LowRows (rows_in list) made.table) (λ made. picked_made q true (stage_of made.table list)) words last w1 a
-      → (w2 : List ℕ) (i : Got) → GoesOn (λ made. made.node < length made.table) (λ made. iter_made q made.table made.node) w1 a w2 i
-      → GoesOn (LoopSuits q list) (λ made. loop_made q (stage_of made.table list)) words last w2 i
+-- the rows that were picked on the words are the looping ones
+picked-A : (q : ℕ) → q < state_width → (table : Table) (rows : List NodeRow) → picked_made (Looping q) (stage_of table rows) ≡ A-made q (stage_of table rows)
+unfolding A-made
+picked-A q hq table rows = ap (λ (chosen : List NodeRow). join_made table (nodes chosen)) (picks-looping q hq table rows)
+
+module _ (q : ℕ) (hq : q < state_width) (rows : List NodeRow) (words : List ℕ) (count : ℕ) (w1 : List ℕ) where
+  pub loop-full : (reason : Refused) → NodeOn (NodeAndRows 0 rows) (λ table. picked_made (Looping q) (stage_of table rows)) words count w1 (Err reason)
+      → NodeOn (NodeAndRows (hole_at q) rows) (λ table. loop_made q (stage_of table rows)) words count w1 (Err reason)
+  loop-full reason xa before table h s =
+      let stage = stage_of table rows in
+      let l = s.0 in
+      less-room (rw (loop-is q stage) (iter-grows q (A-made q stage).table (A-made q stage).node))
+      (subst (λ (m : Made). NoRoom before m.table reason) (picked-A q hq table rows) (xa before table h (omega arith, s.1)))
+
+  pub loop-node : (a : Got) → NodeOn (NodeAndRows 0 rows) (λ table. picked_made (Looping q) (stage_of table rows)) words count w1 (Ok a) → (w2 : List ℕ) (r : Result Got Refused)
+      → NodeOn (λ table. a.node < length table) (λ table. iter_made q table a.node) w1 a.count w2 r
+      → NodeOn (NodeAndRows (hole_at q) rows) (λ table. loop_made q (stage_of table rows)) words count w2 r
   unfolding A-made
-  loop-node w1 a xa w2 i xi before made g s =
-      let stage = stage_of made.table list in
-      let A = picked_made q true stage in
-      let e : A ≡ A-made q stage = ap (λ (rows : List NodeRow). join_made made.table (nodes rows)) (picks-looping q hq made.table (rows_in list)) in
-      subst (λ (m : Made). GivesNode before m w2 i) (ap (λ (m : Made). iter_made q m.table m.node) e ∙ sym (loop-is q stage))
-      (xi before A (xa before made g (λ room. let h = (s room).0 in (omega arith, (s room).1)))
-      (λ room.
-      let ok = s (ready-less room (grown-longer (join-grows made.table (nodes (those (picks q true made.table) (rows_in list)))))) in
-      let h = ok.0 in
-      join-low made.table (nodes (those (picks q true made.table) (rows_in list))) (omega arith) (low_of _ (rows_in list) made.table ok.1)))
+  loop-node a xa w2 r xi before table h s =
+      let stage = stage_of table rows in
+      let l = s.0 in
+      let A = A-made q stage in
+      let got : HasNode before A w1 a = subst (λ (m : Made). HasNode before m w1 a) (picked-A q hq table rows) (xa before table h (omega arith, s.1)) in
+      let low = join-low table (nodes (those (looping_node q table) rows)) (omega arith) (low_of (looping_node q table) rows table s.1) in
+      subst (λ (m : Made). GivesNode before m w2 r) (ap (iter_made q A.table) got.node ∙ sym (loop-is q stage)) (xi before A.table got.has (omega (arith, got.node)))
 
 -- ---- B and X
 
@@ -80,17 +88,17 @@ incoming-grown q {old} {new} x rows low =
 
 -- B, by the table that I left
 B-made : ℕ → Stage → Made
-B-made q stage = picked_made q false (record { table = (loop_made q stage).table; rows = stage.rows })
+B-made q stage = picked_made (Incoming q) (record { table = (loop_made q stage).table; rows = stage.rows })
 
 B-grows : (q : ℕ) (stage : Stage) → Grown (loop_made q stage).table (B-made q stage).table
 unfolding B-made
-B-grows q stage = join-grows (loop_made q stage).table (nodes (those (picks q false (loop_made q stage).table) stage.rows))
+B-grows q stage = join-grows (loop_made q stage).table (nodes (those (picks (Incoming q) (loop_made q stage).table) stage.rows))
 
 B-low : (q : ℕ) (stage : Stage) → hole_at q < length stage.table → LowRows stage.rows stage.table → (B-made q stage).node < length (B-made q stage).table
 unfolding B-made
 B-low q stage h low =
     let i = loop-low q stage h in
-    join-low (loop_made q stage).table (nodes (those (picks q false (loop_made q stage).table) stage.rows)) (omega arith)
+    join-low (loop_made q stage).table (nodes (those (picks (Incoming q) (loop_made q stage).table) stage.rows)) (omega arith)
     (low_of _ stage.rows (loop_made q stage).table (low-rows-grown (loop-grows q stage) stage.rows low))
 
 stand_in-is : (q : ℕ) → q < state_width → (stage : Stage) → LowRows stage.rows stage.table → cat_made q (B-made q stage).table (loop_made q stage).node (B-made q stage).node ≡ stand_in_made q stage
@@ -99,33 +107,45 @@ stand_in-is q hq stage low =
     ap (λ (rows : List NodeRow). let B = join_made (loop_made q stage).table (nodes rows) in cat_made q B.table (loop_made q stage).node B.node)
     (picks-incoming q hq (loop_made q stage).table stage.rows ∙ incoming-grown q (loop-grows q stage) stage.rows low)
 
-module _ (q : ℕ) (hq : q < state_width) (list : Rows) (words : List ℕ) (last : Got) (w1 : List ℕ) (i : Got) (xi : GoesOn (LoopSuits q list) (λ made. loop_made q (stage_of made.table list)) words last w1 i)
-    (w2 : List ℕ) (b : Got) (xb : GoesOn (λ made. (0 < length made.table) × LowRows (rows_in list) made.table) (λ made. picked_made q false (stage_of made.table list)) w1 i w2 b)
-    (w3 : List ℕ) (x : Got) (xx : GoesOn (λ made. (i.node < length made.table) × (b.node < length made.table)) (λ made. cat_made q made.table i.node b.node) w2 b w3 x) where
-  pub stand-in : GoesOn (LoopSuits q list) (λ made. stand_in_made q (stage_of made.table list)) words last w3 x
-  unfolding B-made
-  stand-in before made g s =
-      let stage = stage_of made.table list in
-      let I = loop_made q stage in
-      let B = B-made q stage in
-      let grew_i = loop-grows q stage in
-      let grew_b = B-grows q stage in
-      let gi = xi before made g s in
-      let gb = xb before I gi (λ room.
-      let ok = s (ready-less room (grown-longer grew_i)) in
-      let h = loop-low q stage ok.0 in
-      (omega arith, low-rows-grown grew_i (rows_in list) ok.1)) in
-      let gx = xx before B gb (λ room.
-      let room_i = ready-less room (grown-longer grew_b) in
-      let ok = s (ready-less room_i (grown-longer grew_i)) in
-      let a = loop-low q stage ok.0 in
-      let c = B-low q stage ok.0 ok.1 in
-      let l = grown-longer grew_b in
-      (omega (arith, (gi.done room_i).node), omega (arith, (gb.done room).node))) in
-      gives_other made.table (cat_made q B.table I.node B.node) (stand_in_made q stage) (λ room. stand_in-is q hq stage (s room).1)
-      (grown-then grew_i (grown-then grew_b (cat-grows q B.table I.node B.node))) (stand_in-grows q stage)
-      (gives_other B.table (cat_made q B.table i.node b.node) (cat_made q B.table I.node B.node)
-      (λ room. ap₂ (cat_made q B.table) (gi.done (ready-less room (grown-longer grew_b))).node (gb.done room).node) (cat-grows q B.table i.node b.node) (cat-grows q B.table I.node B.node) gx)
+-- what I left grows to what X leaves
+I-grows : (q : ℕ) → q < state_width → (stage : Stage) → LowRows stage.rows stage.table → Grown (loop_made q stage).table (stand_in_made q stage).table
+I-grows q hq stage low =
+    rw (← (stand_in-is q hq stage low)) (grown-then (B-grows q stage) (cat-grows q (B-made q stage).table (loop_made q stage).node (B-made q stage).node))
+
+module _ (q : ℕ) (hq : q < state_width) (rows : List NodeRow) (words : List ℕ) (count : ℕ) (w1 : List ℕ) where
+  pub stand-full : (reason : Refused) → NodeOn (NodeAndRows (hole_at q) rows) (λ table. loop_made q (stage_of table rows)) words count w1 (Err reason)
+      → NodeOn (NodeAndRows (hole_at q) rows) (λ table. stand_in_made q (stage_of table rows)) words count w1 (Err reason)
+  stand-full reason xi before table h s = less-room (I-grows q hq (stage_of table rows) s.1) (xi before table h s)
+
+  module _ (i : Got) (xi : NodeOn (NodeAndRows (hole_at q) rows) (λ table. loop_made q (stage_of table rows)) words count w1 (Ok i)) (w2 : List ℕ) where
+    module _ (before : List ℕ) (table : Table) (h : HasTable before table words count) (s : NodeAndRows (hole_at q) rows table) where
+      suits-B : NodeAndRows 0 rows (loop_made q (stage_of table rows)).table
+      suits-B = let l = loop-low q (stage_of table rows) s.0 in (omega arith, low-rows-grown (loop-grows q (stage_of table rows)) rows s.1)
+
+    pub joined-full : (reason : Refused) → NodeOn (NodeAndRows 0 rows) (λ table. picked_made (Incoming q) (stage_of table rows)) w1 i.count w2 (Err reason)
+        → NodeOn (NodeAndRows (hole_at q) rows) (λ table. stand_in_made q (stage_of table rows)) words count w2 (Err reason)
+    unfolding B-made
+    joined-full reason xb before table h s =
+        let stage = stage_of table rows in
+        let I = loop_made q stage in
+        less-room (rw (← (stand_in-is q hq stage s.1)) (cat-grows q (B-made q stage).table I.node (B-made q stage).node))
+        (xb before I.table (xi before table h s).has (suits-B before table h s))
+
+    pub stand-in : (b : Got) → NodeOn (NodeAndRows 0 rows) (λ table. picked_made (Incoming q) (stage_of table rows)) w1 i.count w2 (Ok b) → (w3 : List ℕ) (r : Result Got Refused)
+        → NodeOn (Both i.node b.node) (λ table. cat_made q table i.node b.node) w2 b.count w3 r
+        → NodeOn (NodeAndRows (hole_at q) rows) (λ table. stand_in_made q (stage_of table rows)) words count w3 r
+    unfolding B-made
+    stand-in b xb w3 r xx before table h s =
+        let stage = stage_of table rows in
+        let I = loop_made q stage in
+        let B = B-made q stage in
+        let gi = xi before table h s in
+        let gb = xb before I.table gi.has (suits-B before table h s) in
+        let a = loop-low q stage s.0 in
+        let c = B-low q stage s.0 s.1 in
+        let l = grown-longer (B-grows q stage) in
+        subst (λ (m : Made). GivesNode before m w3 r) (ap₂ (cat_made q B.table) gi.node gb.node ∙ stand_in-is q hq stage s.1)
+        (xx before B.table gb.has (omega (arith, gi.node), omega (arith, gb.node)))
 
 -- ---- the rows
 
@@ -147,58 +167,44 @@ rows-low q X table (row ∷ rows) h_x low =
 stand_in-low : (q : ℕ) → q < state_width → (stage : Stage) → hole_at q < length stage.table → LowRows stage.rows stage.table → (stand_in_made q stage).node < length (stand_in_made q stage).table
 stand_in-low q hq stage h low = rw (← (stand_in-is q hq stage low)) (cat-low q (B-made q stage).table (loop_made q stage).node (B-made q stage).node (B-low q stage h low))
 
--- a stage that a state was taken out of is such a stage again
-pub eliminated-workable : (q : ℕ) → q < state_width → (stage : Stage) → hole_at q < length stage.table → Workable stage → Workable (eliminated_stage q stage)
+-- the rows of a stage that a state was taken out of are nodes of its table again
+pub eliminated-low : (q : ℕ) → q < state_width → (stage : Stage) → NodeAndStage (hole_at q) stage → LowRows (eliminated_stage q stage).rows (eliminated_stage q stage).table
 unfolding eliminated_stage
-eliminated-workable q hq stage h s =
-    record {
-      few = (let f = s.few in let r = step-rows q stage in omega arith);
-      low =
-          rows-low q (stand_in_made q stage).node (stand_in_made q stage).table (those (remains_node q stage.table) stage.rows) (stand_in-low q hq stage h s.low)
-          (low-rows-grown (stand_in-grows q stage) (those (remains_node q stage.table) stage.rows)
-          (those-all (λ row. row.node < length stage.table) (remains_node q stage.table) stage.rows s.low));
-    }
+eliminated-low q hq stage s =
+    rows-low q (stand_in_made q stage).node (stand_in_made q stage).table (those (remains_node q stage.table) stage.rows) (stand_in-low q hq stage s.0 s.1)
+    (low-rows-grown (stand_in-grows q stage) (those (remains_node q stage.table) stage.rows)
+    (those-all (λ row. row.node < length stage.table) (remains_node q stage.table) stage.rows s.1))
 
--- the list of a stage, where there was room for its table
-pub list-is : {before words : List ℕ} {stage : Stage} {r : Staged} → GivesStage before stage words r → Ready before (length stage.table) → rows_in r.list ≡ stage.rows
-list-is {before} {words} {stage} {r} g room = (g.done room).listed
+-- the rows that stay, by the table that X left and by the stage's own
+rows-stay : (q : ℕ) (stage : Stage) → replaced_rows q (stand_in_made q stage).node (stand_in_made q stage).table (those (remains_node q (stand_in_made q stage).table) stage.rows) ≡ eliminated_stage q stage
+unfolding eliminated_stage
+rows-stay q stage = let X = stand_in_made q stage in ap (replaced_rows q X.node X.table) (remains-any q X.table stage.table stage.rows)
 
--- its table, with any node asked for
-pub stage-node : {before words : List ℕ} {stage : Stage} {r : Staged} → GivesStage before stage words r → (node : ℕ) → GivesNode before (already stage.table node) words (record { count = r.count; node = node })
-stage-node g node =
-    record { done = λ room. let h = g.done room in record { words = h.words; counted = h.counted; node = refl }; over = g.over }
+module _ (q : ℕ) (hq : q < state_width) (words : List ℕ) (staged : Staged) (w1 : List ℕ) where
+  -- the rows that were listed are the stage's
+  module _ (before : List ℕ) (stage : Stage) (h : HasStage before stage words staged) (s : NodeAndStage (hole_at q) stage) where
+    stage-is : stage_of stage.table staged.list ≡ stage
+    stage-is = ap (stage_of stage.table) h.listed
 
--- the same stage, so long as there was room for the table that it goes on from
-stage-other : {before after : List ℕ} {r : Staged} (first : Table) (stage other : Stage) → (Ready before (length first) → stage ≡ other) → Grown first stage.table → Grown first other.table
-    → GivesStage before stage after r → GivesStage before other after r
-stage-other {before} {after} {r} first stage other e g h x = go (dec-ready before (length first))
-  where
-    go : Dec (Ready before (length first)) → GivesStage before other after r
-    go (yes room) = subst (λ (s : Stage). GivesStage before s after r) (e room) x
-    go (no none) = record { done = λ room. absurd (none (ready-less room (grown-longer h))); over = λ _. x.over (λ room. none (ready-less room (grown-longer g))) }
+    suits : NodeAndRows (hole_at q) staged.list stage.table
+    suits = (s.0, rw h.listed s.1)
 
-module _ (q : ℕ) (hq : q < state_width) (words : List ℕ) (staged : Staged) (w1 : List ℕ) (x : Got)
-    (xx : GoesOn (LoopSuits q staged.list) (λ made. stand_in_made q (stage_of made.table staged.list)) words (record { count = staged.count; node = 0 }) w1 x)
-    (w2 : List ℕ) (r : Staged)
-    (xr : RowsOn (λ made. (made.node < length made.table) × LowRows (rows_in staged.list) made.table)
-    (λ made. replaced_rows q made.node made.table (those (remains_node q made.table) (rows_in staged.list))) w1 x w2 r) where
-  goes : (before : List ℕ) (stage : Stage) → GivesStage before stage words staged → Workable stage × (hole_at q < length stage.table) → GivesStage before (eliminated_stage q stage) w2 r
-  unfolding eliminated_stage
-  goes before stage g s =
+  pub out-full : (reason : Refused) → NodeOn (NodeAndRows (hole_at q) staged.list) (λ table. stand_in_made q (stage_of table staged.list)) words staged.count w1 (Err reason)
+      → StagesOn (NodeAndStage (hole_at q)) (eliminated_stage q) words staged w1 (Err reason)
+  out-full reason xx before stage h s =
       let X = stand_in_made q stage in
-      let rows = rows_in staged.list in
-      let grew = stand_in-grows q stage in
-      let low : Ready before (length stage.table) → LowRows rows stage.table = λ room. rw (list-is g room) s.0.low in
-      let gx : GivesNode before X w1 x =
-      gives_other stage.table (stand_in_made q (stage_of stage.table staged.list)) X (λ room. ap (λ (l : List NodeRow). stand_in_made q (record { table = stage.table; rows = l })) (list-is g room))
-      (stand_in-grows q (stage_of stage.table staged.list)) grew
-      (xx before (already stage.table 0) (stage-node g 0) (λ room. (s.1, low room))) in
-      stage-other stage.table (replaced_rows q X.node X.table (those (remains_node q X.table) rows)) (replaced_rows q X.node X.table (those (remains_node q stage.table) stage.rows))
-      (λ room. ap (replaced_rows q X.node X.table) (remains-any q X.table stage.table rows ∙ ap (those (remains_node q stage.table)) (list-is g room)))
-      (grown-then grew (rows_grow q X.node X.table (those (remains_node q X.table) rows)))
-      (grown-then grew (rows_grow q X.node X.table (those (remains_node q stage.table) stage.rows)))
-      (xr.goes before X gx (λ room.
-      (stand_in-low q hq stage s.1 s.0.low, low-rows-grown grew rows (low (ready-less room (grown-longer grew))))))
+      less-room (subst (λ (t : Stage). Grown X.table t.table) (rows-stay q stage) (rows_grow q X.node X.table (those (remains_node q X.table) stage.rows)))
+      (subst (λ (t : Stage). NoRoom before (stand_in_made q t).table reason) (stage-is before stage h s) (xx before stage.table h.has (suits before stage h s)))
 
-  pub taken_out : StagesOn (λ stage. Workable stage × (hole_at q < length stage.table)) (eliminated_stage q) words staged w2 r
-  taken_out = record { tidy = xr.tidy; goes = goes }
+  module _ (x : Got) (xx : NodeOn (NodeAndRows (hole_at q) staged.list) (λ table. stand_in_made q (stage_of table staged.list)) words staged.count w1 (Ok x))
+      (w2 : List ℕ) (r : Result Staged Refused)
+      (xr : StageOn (NodeAndRows x.node staged.list) (λ table. replaced_rows q x.node table (those (remains_node q table) staged.list)) w1 x.count w2 r) where
+    pub taken_out : StagesOn (NodeAndStage (hole_at q)) (eliminated_stage q) words staged w2 r
+    taken_out before stage h s =
+        let X = stand_in_made q stage in
+        let got : HasNode before X w1 x = subst (λ (t : Stage). HasNode before (stand_in_made q t) w1 x) (stage-is before stage h s) (xx before stage.table h.has (suits before stage h s)) in
+        let low = stand_in-low q hq stage s.0 s.1 in
+        let e : replaced_rows q x.node X.table (those (remains_node q X.table) staged.list) ≡ eliminated_stage q stage =
+        ap₂ (λ (n : ℕ) (rows : List NodeRow). replaced_rows q n X.table (those (remains_node q X.table) rows)) got.node h.listed ∙ rows-stay q stage in
+        subst (λ (t : Stage). GivesStage before t w2 r) e
+        (xr before X.table got.has (omega (arith, got.node), rw h.listed (low-rows-grown (stand_in-grows q stage) stage.rows s.1)))

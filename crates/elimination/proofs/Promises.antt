@@ -1,10 +1,11 @@
 -- The public promises: how they follow from what the private functions do.
 use Prim.Native.Nat.{ℕ, ◌+◌, ◌*◌, ◌<◌, ◌≤◌}
 use native.Mathlib.Omega.{arith}
+use native.Mathlib.Numerals.{add-one}
 use mathlib.Core.Path.{◌≡◌, refl, sym, ◌∙◌, ap, ap₂, subst}
 use mathlib.Core.List.{List, [], ◌∷◌, ◌++◌, map, map-append}
 use lib.ListN.{length, get_or, set, take, drop, replicate, length-map}
-use lib.Seq.{length-take-le}
+use lib.Seq.{take-suc, take_all, length-take-le}
 use Rattle.sets.specs.Members.{size, state_width}
 use Rattle.ground.specs.Lists.{filled}
 use Rattle.buffers.specs.Writing.{all_zero}
@@ -12,9 +13,10 @@ use Rattle.ground.proofs.Places.{filled_none, filled-set, filled-take}
 use Rattle.ground.proofs.Lists.{all_map, map_same}
 use Rattle.automaton.specs.declared.Reading.{Reading}
 use Rattle.automaton.specs.declared.Refusal.{Refusal}
+use Rattle.automaton.specs.declared.Refused.{Refused}
 use Rattle.automaton.specs.Held.{Held, Valid}
 use Rattle.automaton.specs.Checks.{Verdict, holds, fault, verdict}
-use Rattle.automaton.specs.Refusals.{refusal, no_refusal}
+use Rattle.automaton.specs.Refusals.{refusal, no_refusal, number_of}
 use Rattle.automaton.specs.Answers.{held_by, read_answer}
 use Rattle.automaton.proofs.Files.Pair.{verdict-valid}
 use Rattle.automaton.proofs.Handing.{read-refused, read_done, read_held}
@@ -30,64 +32,42 @@ use Rattle.theory.specs.Theorem.{PartlyConverted, WhollyConverted}
 use Rattle.theory.proofs.Counting.Bound.{bound-file}
 use Rattle.theory.proofs.Theorem.{partly-ascending, wholly-ascending}
 use Rattle.elimination.specs.declared.maker.Got.{Got}
-use Rattle.elimination.specs.declared.rows.Rows.{Rows}
 use Rattle.elimination.specs.declared.rows.Staged.{Staged}
 use Rattle.elimination.specs.declared.ListRow.{ListRow}
 use Rattle.elimination.specs.declared.Partly.{Partly}
 use Rattle.elimination.specs.declared.Wholly.{Wholly}
 use Rattle.elimination.specs.Answers.{whole_nodes, written_to, unused_place, list_row, list_of_rows, refused_partly, partly_done, row_of_place, stage_answered, PartlyAnswered, refused_whole, wholly_done, made_answered, WhollyAnswered}
-use Rattle.elimination.specs.Inside.{Ready, HasNode, GivesNode, no_row, rows_in, Tidy, LowRows, HasStage, GivesStage, reported_row, reported_rows, ReportsStop, ReportsAnswer, PartlyOf, WhollyOf}
+use Rattle.elimination.specs.Inside.{Ready, NoRoom, HasNode, no_row, LowRows, HasStage, reported_row, reported_rows, PartlyOf, WhollyOf}
 use Rattle.elimination.proofs.Room.{written-node}
-use Rattle.elimination.proofs.RowList.{rows-count, rows_more, rows_all}
 use Rattle.elimination.proofs.Conversion.{stage-low}
 
 -- ---- the list that is returned
 
-pub record ListLoop (words : List ℕ) (list : Rows) (out : List ListRow) (i : ℕ) : Type 0 where
-  pub far : i ≤ list.count
-  pub is : out ≡ filled list_places unused_place (map (reported_row words) (take i (rows_in list)))
+pub record ListLoop (words : List ℕ) (rows : List NodeRow) (out : List ListRow) (i : ℕ) : Type 0 where
+  pub far : i ≤ length rows
+  pub is : out ≡ filled list_places unused_place (map (reported_row words) (take i rows))
 
-module _ (words : List ℕ) (list : Rows) (t : Tidy list) where
-  pub list-start : ListLoop words list (replicate list_places unused_place) 0
+module _ (words : List ℕ) (rows : List NodeRow) where
+  pub list-start : ListLoop words rows (replicate list_places unused_place) 0
   list-start = record { far = omega arith; is = filled_none list_places unused_place }
 
-  module _ (out : List ListRow) (i : ℕ) (l : ListLoop words list out i) where
-    pub list-end : list.count ≤ i → out ≡ reported_rows words list
-    list-end h = l.is ∙ ap (λ (rows : List NodeRow). filled list_places unused_place (map (reported_row words) rows)) (rows_all t i h)
+  module _ (out : List ListRow) (i : ℕ) (l : ListLoop words rows out i) where
+    pub list-end : length rows ≤ i → out ≡ reported_rows words rows
+    list-end h = l.is ∙ ap (λ (so : List NodeRow). filled list_places unused_place (map (reported_row words) so)) (take_all i rows h)
 
-    pub list-next : i < list.count → (row : ListRow) → row ≡ reported_row words (get_or list.places i no_row) → ListLoop words list (set out i row) (i + 1)
-    list-next h row er =
-        let so = take i (rows_in list) in
-        let few = t.few in
-        let n = rows-count t in
-        let lt = length-take-le i (rows_in list) (omega arith) in
+    pub list-next : length rows ≤ list_places → i < length rows → (row : ListRow) → row ≡ reported_row words (get_or rows i no_row) → ListLoop words rows (set out i row) (i + 1)
+    list-next few h row er =
+        let so = take i rows in
+        let lt = length-take-le i rows (omega arith) in
         let lm = length-map so (reported_row words) in
         record {
           far = omega arith;
           is =
               ap₂ (λ (x : List ListRow) (y : ListRow). set x i y) l.is er
-              ∙ filled-set list_places unused_place (map (reported_row words) so) (reported_row words (get_or list.places i no_row)) i (sym (lm ∙ lt)) (omega arith)
-              ∙ ap (filled list_places unused_place) (sym (map-append (reported_row words) so (get_or list.places i no_row ∷ [])) ∙ ap (map (reported_row words)) (sym (rows_more t i h)));
+              ∙ filled-set list_places unused_place (map (reported_row words) so) (reported_row words (get_or rows i no_row)) i (sym (lm ∙ lt)) (omega arith)
+              ∙ ap (filled list_places unused_place)
+              (sym (map-append (reported_row words) so (get_or rows i no_row ∷ [])) ∙ ap (map (reported_row words)) (sym (ap (λ (n : ℕ). take n rows) (add-one i) ∙ take-suc rows i no_row h)));
         }
-
--- ---- what is reported
-
-pub stop-short : (words : List ℕ) (staged : Staged) → most_nodes < staged.count → ReportsStop words staged (all_zero words) (refused_partly (refusal 6))
-stop-short words staged f = record { short = λ _. (refl, refl); done = λ e. absurd (omega arith) }
-
-pub stop-done : (words : List ℕ) (staged : Staged) → staged.count ≤ most_nodes → (list : List ListRow) → list ≡ reported_rows words staged.list
-    → ReportsStop words staged words (record { refusal = no_refusal; nodes = staged.count; rows = staged.list.count; list = list })
-stop-done words staged f list e =
-    record {
-      short = λ t. absurd (omega arith);
-      done = λ _. (ap (λ (l : List ListRow). record { refusal = no_refusal; nodes = staged.count; rows = staged.list.count; list = l }) e, refl);
-    }
-
-pub answer-short : (words : List ℕ) (got : Got) → most_nodes < got.count → ReportsAnswer words got (all_zero words) (refused_whole (refusal 6))
-answer-short words got f = record { short = λ _. (refl, refl); done = λ e. absurd (omega arith) }
-
-pub answer-done : (words : List ℕ) (got : Got) → got.count ≤ most_nodes → ReportsAnswer words got words (record { refusal = no_refusal; nodes = got.count; answer = got.node })
-answer-done words got f = record { short = λ t. absurd (omega arith); done = λ _. (refl, refl) }
 
 -- the list by the words is the list by the table
 reported-is : (before words : List ℕ) (stage : Stage) → words ≡ written_to before stage.table → LowRows stage.rows stage.table → map (reported_row words) stage.rows ≡ map (list_row stage.table) stage.rows
@@ -167,49 +147,52 @@ module _ (held : Held) (k : ℕ) (before : List ℕ) where
       far : (other : Held) → verdict file ≡ holds other → k ≤ other.states → ⊥
       far other o h = omega (arith, ap (λ (x : Held). x.states) (one e o))
 
+  -- there is no room for the table
+  pub partly-short : k ≤ held.states → (reason : Refused) → NoRoom before (stage_after k held).table reason → (w1 : List ℕ) → length w1 ≡ length before
+      → PartlyOf held k before (all_zero w1) (refused_partly (refusal (number_of reason)))
+  partly-short within reason x w1 el file e =
+      record {
+        faulty = λ number offset d. absurd (no-fault e d);
+        too_far = λ other o h. absurd (omega (arith, ap (λ (y : Held). y.states) (one e o)));
+        short = λ other o h l. (ap (λ (n : ℕ). refused_partly (refusal n)) x.short, ap (λ (n : ℕ). replicate n 0) el);
+        done = λ other o h l. absurd (full (rw (← (one e o)) at l));
+        means = λ other o h l. absurd (full (rw (← (one e o)) at l));
+      }
+    where
+      full : length (stage_after k held).table ≤ whole_nodes before → ⊥
+      full l = let few = (partly-ascending held (verdict-valid file held e) k within).few in x.none (fits-ready before (length (stage_after k held).table) (omega (arith, bound-file held (verdict-valid file held e))) l)
+
   -- a stop
-  module _ (within : k ≤ held.states) (w1 : List ℕ) (staged : Staged) (t : Tidy staged.list) (g : GivesStage before (stage_after k held) w1 staged) (el : length w1 ≡ length before) (after : List ℕ) (r : Partly) (x : ReportsStop w1 staged after r) where
-    stop-full : whole_nodes before < length (stage_after k held).table → (r ≡ refused_partly (refusal 6)) × (after ≡ all_zero before)
-    stop-full l = let y = x.short (omega (arith, g.over (short-not before (length (stage_after k held).table) l))) in (y.0, y.1 ∙ ap (λ (n : ℕ). replicate n 0) el)
+  module _ (within : k ≤ held.states) (after : List ℕ) (staged : Staged) (g : HasStage before (stage_after k held) after staged) (list : List ListRow) (el : list ≡ reported_rows after staged.list) where
+    stopped : Partly
+    stopped = record { refusal = no_refusal; nodes = staged.count; rows = length staged.list; list = list }
 
-    module _ (v : Valid held) (l : length (stage_after k held).table ≤ whole_nodes before) where
-      ready : Ready before (length (stage_after k held).table)
-      ready = let few = (partly-ascending held v k within).few in fits-ready before (length (stage_after k held).table) (omega (arith, bound-file held v)) l
-
-      has : HasStage before (stage_after k held) w1 staged
-      has = g.done ready
-
-      few : staged.count ≤ most_nodes
-      few = let h = ready.few in omega (arith, has.counted)
-
-      written : after ≡ written_to before (stage_after k held).table
-      written = (x.done few).1 ∙ has.words
-
-      returned : r ≡ partly_done (stage_after k held)
-      unfolding partly_done list_of_rows
+    module _ (v : Valid held) where
+      returned : stopped ≡ partly_done (stage_after k held)
+      unfolding stopped partly_done list_of_rows
       returned =
           let stage = stage_after k held in
-          (x.done few).0
-          ∙ eq has.counted (rows-count t ∙ ap length has.listed)
-          (ap (filled list_places unused_place) (ap (map (reported_row w1)) has.listed ∙ reported-is before w1 stage has.words (stage-low held v k within)))
+          eq g.has.counted (ap length g.listed)
+          (el ∙ ap (filled list_places unused_place) (ap (map (reported_row after)) g.listed ∙ reported-is before after stage g.has.words (stage-low held v k within)))
         where
           eq : {a b c d : ℕ} {p q : List ListRow} → a ≡ b → c ≡ d → p ≡ q → ◌≡◌ {A = Partly} (record { refusal = no_refusal; nodes = a; rows = c; list = p }) (record { refusal = no_refusal; nodes = b; rows = d; list = q })
           eq s t u = λ i. record { refusal = no_refusal; nodes = s i; rows = t i; list = u i }
 
-      means : PartlyConverted held (λ q. q < k) (stage_answered after r)
+      means : PartlyConverted held (λ q. q < k) (stage_answered after stopped)
       unfolding written_to
       means =
-          subst (PartlyConverted held (λ q. q < k)) (sym (ap₂ stage_answered written returned ∙ answered (stage_after k held) (drop (node_width * length (stage_after k held).table) before)))
+          subst (PartlyConverted held (λ q. q < k)) (sym (ap₂ stage_answered g.has.words returned ∙ answered (stage_after k held) (drop (node_width * length (stage_after k held).table) before)))
           (partly-ascending held v k within)
 
-    pub partly-stopped : PartlyOf held k before after r
+    pub partly-stopped : PartlyOf held k before after (record { refusal = no_refusal; nodes = staged.count; rows = length staged.list; list = list })
+    unfolding stopped
     partly-stopped file e =
         record {
           faulty = λ number offset d. absurd (no-fault e d);
           too_far = λ other o h. absurd (omega (arith, ap (λ (y : Held). y.states) (one e o)));
-          short = λ other o h l. stop-full (rw (← (one e o)) at l);
-          done = λ other o h l. rw (← (one e o)) (returned (verdict-valid file held e) (rw (← (one e o)) at l), written (verdict-valid file held e) (rw (← (one e o)) at l));
-          means = λ other o h l. rw (← (one e o)) (means (verdict-valid file held e) (rw (← (one e o)) at l));
+          short = λ other o h l. absurd (short-not before (length (stage_after k held).table) (rw (← (one e o)) at l) g.has.room);
+          done = λ other o h l. rw (← (one e o)) (returned (verdict-valid file held e), g.has.words);
+          means = λ other o h l. rw (← (one e o)) (means (verdict-valid file held e));
         }
 
 -- ---- `convert`
@@ -230,38 +213,41 @@ pub wholly-held : (file : List ℕ) (reading : Reading) → reading ≡ read_ans
     → WhollyAnswered file before after r
 wholly-held file reading er before after r z p = let h = read_held file reading er z in p file (h.in_file ∙ ap holds (sym h.said))
 
-module _ (held : Held) (before w1 : List ℕ) (got : Got) (g : GivesNode before (converted held) w1 got) (el : length w1 ≡ length before) (after : List ℕ) (r : Wholly) (x : ReportsAnswer w1 got after r) where
-  end-full : whole_nodes before < length (converted held).table → (r ≡ refused_whole (refusal 6)) × (after ≡ all_zero before)
-  end-full l = let y = x.short (omega (arith, g.over (short-not before (length (converted held).table) l))) in (y.0, y.1 ∙ ap (λ (n : ℕ). replicate n 0) el)
-
-  module _ (v : Valid held) (l : length (converted held).table ≤ whole_nodes before) where
-    end-ready : Ready before (length (converted held).table)
-    end-ready = let few = (wholly-ascending held v).few in fits-ready before (length (converted held).table) (omega (arith, bound-file held v)) l
-
-    end-has : HasNode before (converted held) w1 got
-    end-has = g.done end-ready
-
-    end-few : got.count ≤ most_nodes
-    end-few = let h = end-ready.few in omega (arith, end-has.counted)
-
-    end-written : after ≡ written_to before (converted held).table
-    end-written = (x.done end-few).1 ∙ end-has.words
-
-    end-returned : r ≡ wholly_done (converted held)
-    unfolding wholly_done
-    end-returned = (x.done end-few).0 ∙ ap₂ (λ (a b : ℕ). record { refusal = no_refusal; nodes = a; answer = b }) end-has.counted end-has.node
-
-    end-means : WhollyConverted held (made_answered after r)
-    unfolding written_to
-    end-means =
-        subst (WhollyConverted held) (sym (ap₂ made_answered end-written end-returned ∙ answered-made (converted held) (drop (node_width * length (converted held).table) before)))
-        (wholly-ascending held v)
-
-  pub wholly-ended : WhollyOf held before after r
-  wholly-ended file e =
+module _ (held : Held) (before : List ℕ) where
+  -- there is no room for the table
+  pub wholly-short : (reason : Refused) → NoRoom before (converted held).table reason → (w1 : List ℕ) → length w1 ≡ length before
+      → WhollyOf held before (all_zero w1) (refused_whole (refusal (number_of reason)))
+  wholly-short reason x w1 el file e =
       record {
         faulty = λ number offset d. absurd (no-fault e d);
-        short = λ other o l. end-full (rw (← (one e o)) at l);
-        done = λ other o l. rw (← (one e o)) (end-returned (verdict-valid file held e) (rw (← (one e o)) at l), end-written (verdict-valid file held e) (rw (← (one e o)) at l));
-        means = λ other o l. rw (← (one e o)) (end-means (verdict-valid file held e) (rw (← (one e o)) at l));
+        short = λ other o l. (ap (λ (n : ℕ). refused_whole (refusal n)) x.short, ap (λ (n : ℕ). replicate n 0) el);
+        done = λ other o l. absurd (full (rw (← (one e o)) at l));
+        means = λ other o l. absurd (full (rw (← (one e o)) at l));
       }
+    where
+      full : length (converted held).table ≤ whole_nodes before → ⊥
+      full l = let few = (wholly-ascending held (verdict-valid file held e)).few in x.none (fits-ready before (length (converted held).table) (omega (arith, bound-file held (verdict-valid file held e))) l)
+
+  -- an end
+  module _ (after : List ℕ) (got : Got) (g : HasNode before (converted held) after got) where
+    ended : Wholly
+    ended = record { refusal = no_refusal; nodes = got.count; answer = got.node }
+
+    end-is : ended ≡ wholly_done (converted held)
+    unfolding ended wholly_done
+    end-is = ap₂ (λ (a b : ℕ). record { refusal = no_refusal; nodes = a; answer = b }) g.has.counted g.node
+
+    end-means : Valid held → WhollyConverted held (made_answered after ended)
+    unfolding written_to
+    end-means v =
+        subst (WhollyConverted held) (sym (ap₂ made_answered g.has.words end-is ∙ answered-made (converted held) (drop (node_width * length (converted held).table) before))) (wholly-ascending held v)
+
+    pub wholly-ended : WhollyOf held before after (record { refusal = no_refusal; nodes = got.count; answer = got.node })
+    unfolding ended
+    wholly-ended file e =
+        record {
+          faulty = λ number offset d. absurd (no-fault e d);
+          short = λ other o l. absurd (short-not before (length (converted held).table) (rw (← (one e o)) at l) g.has.room);
+          done = λ other o l. rw (← (one e o)) (end-is, g.has.words);
+          means = λ other o l. rw (← (one e o)) (end-means (verdict-valid file held e));
+        }

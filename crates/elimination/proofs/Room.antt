@@ -1,32 +1,24 @@
 -- Room in the lent words, and the words that have a table.
 use Prim.Native.Nat.{ℕ, ◌*◌, ◌≤◌, ◌<◌}
 use native.Mathlib.Omega.{arith}
-use native.Mathlib.Decide.{dec_le}
 use mathlib.Core.Path.{◌≡◌, sym, ◌∙◌, ap}
-use mathlib.Core.Bool.{true, false}
 use mathlib.Core.List.{List}
 use lib.ListN.{length, drop, length-append, length-drop}
+use Rattle.automaton.specs.declared.Refused.{Refused}
 use Rattle.expressions.specs.Nodes.{Table, node_at}
 use Rattle.expressions.specs.Words.{node_width, node_in, table_of, words_of}
-use Rattle.expressions.specs.Soundness.{most_nodes}
 use Rattle.expressions.proofs.Words.{length-words, table-words, node-whole, table_at}
+use Rattle.theory.proofs.Nodes.Grows.{Grown, grown-longer}
 use Rattle.elimination.specs.Answers.{written_to}
-use Rattle.elimination.specs.Inside.{Ready}
-
-pub never : true ≡ false → ⊥
-never e = let z : ◌≡◌ {A = ℕ} 0 1 = cc in omega arith
+use Rattle.elimination.specs.Inside.{Ready, NoRoom}
 
 -- room for so many nodes is room for fewer
 pub ready-less : {words : List ℕ} {m n : ℕ} → Ready words n → m ≤ n → Ready words m
 ready-less r h = let f = r.few in let g = r.roomy in record { few = omega arith; roomy = omega arith }
 
-pub dec-ready : (words : List ℕ) (count : ℕ) → Dec (Ready words count)
-dec-ready words count = go (dec_le count most_nodes) (dec_le (node_width * count) (length words))
-  where
-    go : Dec (count ≤ most_nodes) → Dec (node_width * count ≤ length words) → Dec (Ready words count)
-    go (yes f) (yes g) = yes (record { few = f; roomy = g })
-    go (yes f) (no g) = no (λ r. g r.roomy)
-    go (no f) d = no (λ r. f r.few)
+-- a table only grows: where there is no room for it, there is none for what comes of it
+pub less-room : {before : List ℕ} {first longer : Table} {reason : Refused} → Grown first longer → NoRoom before first reason → NoRoom before longer reason
+less-room g x = record { none = λ room. x.none (ready-less room (grown-longer g)); short = x.short }
 
 -- ---- words that have a table
 

@@ -1,17 +1,21 @@
 -- The start of a conversion: its nodes, and its rows.
-use Prim.Native.Nat.{ℕ, suc, ◌+◌, ◌*◌, ◌%◌, ◌<◌, ◌≤◌}
+use Prim.Native.Nat.{ℕ, zero, suc, ◌+◌, ◌-◌, ◌*◌, ◌%◌, ◌<◌, ◌≤◌}
 use native.Mathlib.Omega.{arith}
 use native.Mathlib.Numerals.{add-one}
+use Rattle.std.proofs.Common.{add-zero, zero-add}
 use native.Mathlib.Nat.{mod-eq_of_lt}
 use mathlib.Core.Path.{◌≡◌, refl, sym, ◌∙◌, ap, ap₂, subst}
 use mathlib.Core.Bool.{true, false}
 use mathlib.Core.List.{List, [], ◌∷◌, ◌++◌, map, map-append, append_assoc, append-nil}
-use lib.ListN.{length, get_or, set, take, replicate, length-map}
-use lib.Seq.{take-suc, take_all, length-take-le}
+use lib.ListN.{length, get_or, take, drop, length-map, length-append}
+use lib.Seq.{drop-cons}
 use borrow.Author.Tests.{lt-ltb, le-ltb}
+use Rattle.std.proofs.lemmas.List.{drop_all}
+use Rattle.std.specs.Prelude.{Ok, Err}
+use Rattle.automaton.specs.declared.Refused.{Refused}
 use Rattle.sets.specs.Members.{has, state_width}
 use Rattle.ground.specs.Lists.{All, filled, those}
-use Rattle.ground.proofs.Places.{filled-get}
+use Rattle.ground.proofs.Places.{filled-get, filled-take}
 use Rattle.ground.proofs.Lists.{all-at, those-append, get_or-map-inside}
 use Rattle.automaton.specs.declared.Row.{Row}
 use Rattle.automaton.specs.declared.Automaton.{Automaton}
@@ -24,59 +28,41 @@ use Rattle.expressions.specs.Soundness.{Fits}
 use Rattle.expressions.proofs.Making.{empty-fits, hole-fits}
 use Rattle.theory.specs.declared.NodeRow.{NodeRow}
 use Rattle.theory.specs.RowLists.{ascending, list_places, final_target}
-use Rattle.theory.specs.Stages.{Made, already, hole_at, holes_table, rule_shape, rules_table, rule_rows, final_node_row, added, with_node}
-use Rattle.theory.proofs.Nodes.Grows.{grown-longer, rules-grow}
+use Rattle.theory.specs.Stages.{hole_at, holes_table, rule_shape, rules_table, rule_rows, final_node_row, added, with_node}
+use Rattle.theory.proofs.Nodes.Grows.{Grown, grown-none, grown-then, grown-longer, with-grows, rules-grow}
 use Rattle.theory.proofs.Nodes.Turns.{holes-first, holes-next, those-none, those-take, those-skip}
 use Rattle.theory.proofs.Nodes.Fitting.{rule_fits}
-use Rattle.theory.proofs.Counting.Bound.{rule_rows-count}
 use Rattle.elimination.specs.declared.maker.Got.{Got}
-use Rattle.elimination.specs.declared.rows.Rows.{Rows}
-use Rattle.elimination.specs.Inside.{GivesNode, GivesTable, GoesOn, TableOn, no_row, rows_in, list_of, child_of, row_shape}
-use Rattle.elimination.proofs.Makers.{gives_none}
-use Rattle.elimination.proofs.RowList.{list-none, list-more, list_count}
-
--- ---- the table alone
-
-gives-table : {before after : List ℕ} {made : Made} {r : Got} → GivesNode before made after r → GivesTable before made.table after r
-gives-table x = record { done = λ room. let h = x.done room in record { words = h.words; counted = h.counted; node = refl }; over = x.over }
-
--- a new node after a table
-table-new : {words after : List ℕ} {last r : Got} (shape : Shape) → GoesOn (λ made. Fits (length made.table) shape) (λ made. added made.table shape) words last after r
-    → (before : List ℕ) (table : Table) → GivesTable before table words last → Fits (length table) shape → GivesTable before (with_node table shape) after r
-table-new {words} {after} {last} {r} shape x before table g fits = gives-table (x before (already table last.node) g (λ _. fits))
+use Rattle.elimination.specs.Inside.{NoRoom, HasTable, NodeOn, TableOn, child_of, row_shape}
+use Rattle.elimination.proofs.Makers.{has_none}
+use Rattle.elimination.proofs.Room.{less-room}
 
 -- ---- the empty node and the holes
 
--- the empty node
-pub empty-put : (before words : List ℕ) (got : Got)
-    → GoesOn (λ made. Fits (length made.table) empty_shape) (λ made. added made.table empty_shape) before (record { count = 0; node = 0 }) words got
-    → GivesTable before (holes_table 0) words got
-empty-put before words got x = rw holes-first (table-new empty_shape x before [] (gives_none before) (empty-fits 0))
+holes-grow : (d q : ℕ) → Grown (holes_table q) (holes_table (q + d))
+holes-grow zero q = rw (add-zero q) (grown-none (holes_table q))
+holes-grow (suc d) q =
+    let e : q + suc d ≡ suc (q + d) = omega arith in
+    rw e (grown-then (holes-grow d q) (subst (Grown (holes_table (q + d))) (sym (holes-next (q + d))) (with-grows (holes_table (q + d)) (hole_shape (q + d)))))
 
--- the holes
-pub record HoleLoop (n : ℕ) (first : List ℕ) (last : Got) (words : List ℕ) (got : Got) (q : ℕ) : Type 0 where
-  pub far : q ≤ n
-  pub same : length words ≡ length first
-  pub on : (before : List ℕ) → GivesTable before (holes_table 0) first last → GivesTable before (holes_table q) words got
+module _ (before : List ℕ) (after : List ℕ) where
+  pub empty-put : (got : Got) → NodeOn (λ table. Fits (length table) empty_shape) (λ table. added table empty_shape) before 0 after (Ok got) → HasTable before (holes_table 0) after got.count
+  empty-put got x = rw holes-first (x before [] (has_none before) (empty-fits 0)).has
 
-module _ (n : ℕ) (few : n ≤ state_width) (first : List ℕ) (last : Got) where
-  pub holes-start : HoleLoop n first last first last 0
-  holes-start = record { far = omega arith; same = refl; on = λ before g. g }
+  pub empty-full : (n : ℕ) (reason : Refused) → NodeOn (λ table. Fits (length table) empty_shape) (λ table. added table empty_shape) before 0 after (Err reason) → NoRoom before (holes_table n) reason
+  empty-full n reason x = less-room (subst (λ (m : ℕ). Grown (holes_table 0) (holes_table m)) (zero-add n) (holes-grow n 0)) (rw holes-first (x before [] (has_none before) (empty-fits 0)))
 
-  module _ (words : List ℕ) (got : Got) (q : ℕ) (l : HoleLoop n first last words got q) where
-    pub holes-end : n ≤ q → (before : List ℕ) → GivesTable before (holes_table 0) first last → GivesTable before (holes_table n) words got
-    holes-end h before g = let f = l.far in let e : q ≡ n = omega arith in subst (λ (m : ℕ). GivesTable before (holes_table m) words got) e (l.on before g)
+module _ (n : ℕ) (few : n ≤ state_width) (before words : List ℕ) (count q : ℕ) (l : HasTable before (holes_table q) words count) (h : q < n) (after : List ℕ) where
+  pub holes-more : (got : Got) → NodeOn (λ table. Fits (length table) (hole_shape q)) (λ table. added table (hole_shape q)) words count after (Ok got) → HasTable before (holes_table (q + 1)) after got.count
+  holes-more got x =
+      subst (λ (t : Table). HasTable before t after got.count) (sym (holes-next q) ∙ ap holes_table (sym (add-one q)))
+      (x before (holes_table q) l (hole-fits (length (holes_table q)) q (omega arith))).has
 
-    pub holes-more : q < n → (after : List ℕ) (next : Got) → length after ≡ length words
-        → GoesOn (λ made. Fits (length made.table) (hole_shape q)) (λ made. added made.table (hole_shape q)) words got after next → HoleLoop n first last after next (q + 1)
-    holes-more h after next same x =
-        record {
-          far = omega arith;
-          same = same ∙ l.same;
-          on = λ before g.
-              subst (λ (t : Table). GivesTable before t after next) (sym (holes-next q) ∙ ap holes_table (sym (add-one q)))
-              (table-new (hole_shape q) x before (holes_table q) (l.on before g) (hole-fits (length (holes_table q)) q (omega arith)));
-        }
+  pub holes-full : (reason : Refused) → NodeOn (λ table. Fits (length table) (hole_shape q)) (λ table. added table (hole_shape q)) words count after (Err reason) → NoRoom before (holes_table n) reason
+  holes-full reason x =
+      let e : suc q + (n - suc q) ≡ n = omega arith in
+      less-room (subst (λ (m : ℕ). Grown (holes_table (suc q)) (holes_table m)) e (holes-grow (n - suc q) (suc q)))
+      (subst (λ (t : Table). NoRoom before t reason) (sym (holes-next q)) (x before (holes_table q) l (hole-fits (length (holes_table q)) q (omega arith))))
 
 -- ---- the shape of a rule's node
 
@@ -134,19 +120,25 @@ module _ (value : Automaton) (handed : Handed value) where
   unfolding placed
   arities-same = ap (λ (v : Automaton). v.arities) handed.is
 
-  -- rule i, and the row that the code reads for it
-  module _ (n i : ℕ) (en : n ≡ value.count) (h : i < n) where
+  -- the rules as the code reads them
+  pub rules-few : value.count ≤ 64
+  rules-few = let f = handed.valid.few_rules in omega (arith, rules-count)
+
+  pub rules-read : take value.count value.rows ≡ map placed_row (held_by value).rules
+  rules-read =
+      let rows = map placed_row (held_by value).rules in
+      ap (take value.count) rows_same ∙ filled-take 64 unused_row rows value.count (rules-count ∙ sym (length-map (held_by value).rules placed_row))
+
+  -- rule i
+  module _ (items : List Row) (read : items ≡ map placed_row (held_by value).rules) (i : ℕ) (h : i < length items) where
     rule : Rule
     rule = get_or (held_by value).rules i no_rule
 
     row : Row
-    row = get_or value.rows i past_row
+    row = get_or items i past_row
 
     rule-in : i < length (held_by value).rules
-    rule-in = omega (arith, rules-count)
-
-    pub rule-place : i < 64
-    rule-place = let f = handed.valid.few_rules in omega (arith, rule-in)
+    rule-in = omega (arith, ap length read, length-map (held_by value).rules placed_row)
 
     rule-valid : ValidRule (held_by value).states (held_by value).arities rule
     unfolding rule
@@ -154,11 +146,7 @@ module _ (value : Automaton) (handed : Handed value) where
 
     row_is : row ≡ placed_row rule
     unfolding row rule
-    row_is =
-        let rows = map placed_row (held_by value).rules in
-        ap (λ (l : List Row). get_or l i past_row) rows_same
-        ∙ filled-get 64 unused_row rows i (let m = rule-in in omega (arith, length-map (held_by value).rules placed_row)) past_row
-        ∙ get_or-map-inside placed_row (held_by value).rules i no_rule past_row rule-in
+    row_is = ap (λ (l : List Row). get_or l i past_row) read ∙ get_or-map-inside placed_row (held_by value).rules i no_rule past_row rule-in
 
     symbol-is : row.symbol ≡ rule.symbol
     unfolding placed_row
@@ -177,11 +165,11 @@ module _ (value : Automaton) (handed : Handed value) where
         let a = all-at (λ a. a ≤ 3) (held_by value).arities handed.valid.small_arities rule.symbol 0 rule-valid.known in
         omega (arith, rule-valid.suited)
 
-    pub rule-symbol : (get_or value.rows i past_row).symbol < 32
+    pub rule-symbol : (get_or items i past_row).symbol < 32
     unfolding row
     rule-symbol = let a = rule-valid.known in let b = handed.valid.few_symbols in omega (arith, symbol-is)
 
-    pub rule-arity : get_or value.arities (get_or value.rows i past_row).symbol 0 ≤ 3
+    pub rule-arity : get_or value.arities (get_or items i past_row).symbol 0 ≤ 3
     unfolding row
     rule-arity = let a = sources-few in omega (arith, arity-is)
 
@@ -193,157 +181,160 @@ module _ (value : Automaton) (handed : Handed value) where
         holes [] a = tt
         holes (q ∷ qs) a = ((let b = a.0 in omega arith), holes qs a.1)
 
-    rules-more : take (i + 1) (held_by value).rules ≡ take i (held_by value).rules ++ (rule ∷ [])
+    -- the rules from this one on
+    from-rule : drop i (held_by value).rules ≡ rule ∷ drop (i + 1) (held_by value).rules
     unfolding rule
-    rules-more = ap (λ (m : ℕ). take m (held_by value).rules) (add-one i) ∙ take-suc (held_by value).rules i no_rule rule-in
+    from-rule = drop-cons (held_by value).rules i no_rule rule-in ∙ ap (λ (m : ℕ). get_or (held_by value).rules i no_rule ∷ drop m (held_by value).rules) (sym (add-one i))
 
 -- ---- the nodes of the rules
-
-rules-snoc : (table : Table) (rules : List Rule) (rule : Rule) → rules_table table (rules ++ (rule ∷ [])) ≡ with_node (rules_table table rules) (rule_shape rule)
-unfolding rules_table
-rules-snoc table [] rule = refl
-rules-snoc table (first ∷ rules) rule = rules-snoc (with_node table (rule_shape first)) rules rule
 
 abbrev RuleSuits : Automaton → Table → Type 0
 RuleSuits value table = (held_by value).states < length table
 
-pub record RuleLoop (value : Automaton) (first : List ℕ) (last : Got) (words : List ℕ) (got : Got) (i : ℕ) : Type 0 where
-  pub far : i ≤ length (held_by value).rules
-  pub same : length words ≡ length first
-  pub on : TableOn (RuleSuits value) (λ table. rules_table table (take i (held_by value).rules)) first last words got
+-- the table so far: with the rules from here on it comes to what is asked
+pub record RulesSoFar (value : Automaton) (before : List ℕ) (table : Table) (rest : List Rule) (words : List ℕ) (count : ℕ) : Type 0 where
+  pub made : Table
+  pub grew : Grown table made
+  pub has : HasTable before made words count
+  pub still : rules_table made rest ≡ rules_table table (held_by value).rules
 
-module _ (value : Automaton) (handed : Handed value) (first : List ℕ) (last : Got) where
-  pub rules-start : RuleLoop value first last first last 0
-  unfolding rules_table
-  rules-start = record { far = omega arith; same = refl; on = λ before table g s. g }
+abbrev pub RuleLoop : Automaton → List ℕ → ℕ → List ℕ → ℕ → ℕ → Type 0
+RuleLoop value first begun words count i =
+    (before : List ℕ) (table : Table) → HasTable before table first begun → RuleSuits value table → RulesSoFar value before table (drop i (held_by value).rules) words count
 
-  module _ (n : ℕ) (en : n ≡ value.count) (words : List ℕ) (got : Got) (i : ℕ) (l : RuleLoop value first last words got i) where
-    pub rules-end : n ≤ i → TableOn (RuleSuits value) (λ table. rules_table table (held_by value).rules) first last words got
+module _ (value : Automaton) (handed : Handed value) (items : List Row) (read : items ≡ map placed_row (held_by value).rules) (first : List ℕ) (begun : ℕ) where
+  pub rules-start : RuleLoop value first begun first begun 0
+  rules-start before table g s = record { made = table; grew = grown-none table; has = g; still = refl }
+
+  module _ (words : List ℕ) (count i : ℕ) (l : RuleLoop value first begun words count i) where
+    pub rules-end : length items ≤ i → TableOn (RuleSuits value) (λ table. rules_table table (held_by value).rules) first begun words (Ok count)
+    unfolding rules_table
     rules-end h before table g s =
-        subst (λ (rules : List Rule). GivesTable before (rules_table table rules) words got) (take_all i (held_by value).rules (omega (arith, rules-count value handed))) (l.on before table g s)
+        let x = l before table g s in
+        subst (λ (t : Table). HasTable before t words count)
+        (ap (rules_table x.made) (sym (drop_all i (held_by value).rules (omega (arith, ap length read, length-map (held_by value).rules placed_row)))) ∙ x.still) x.has
 
-    pub rules-next : (h : i < n) → (shape : Shape) → shape ≡ row_shape (get_or value.rows i past_row) (get_or value.arities (get_or value.rows i past_row).symbol 0) → (after : List ℕ) (next : Got) → length after ≡ length words
-        → GoesOn (λ made. Fits (length made.table) shape) (λ made. added made.table shape) words got after next → RuleLoop value first last after next (i + 1)
-    unfolding rule row
-    rules-next h shape es after next same x =
-        let one = rule value handed n i en h in
-        let e : shape ≡ rule_shape one = es ∙ ap₂ row_shape (row_is value handed n i en h) (arity-is value handed n i en h) ∙ shape_is one (sources-few value handed n i en h) in
-        record {
-          far = (let r = rule-in value handed n i en h in omega arith);
-          same = same ∙ l.same;
-          on = λ before table g s.
-              let made = rules_table table (take i (held_by value).rules) in
-              let longer = grown-longer (rules-grow table (take i (held_by value).rules)) in
-              subst (λ (t : Table). GivesTable before t after next)
-              (ap (with_node made) e ∙ sym (ap (rules_table table) (rules-more value handed n i en h) ∙ rules-snoc table (take i (held_by value).rules) one))
-              (table-new shape x before made (l.on before table g s) (rw e (rule-fit value handed n i en h (length made) (omega arith))));
-        }
+    module _ (h : i < length items) (shape : Shape) (es : shape ≡ row_shape (get_or items i past_row) (get_or value.arities (get_or items i past_row).symbol 0)) (after : List ℕ) where
+      one : Rule
+      one = rule value handed items read i h
+
+      shape-rule : shape ≡ rule_shape one
+      unfolding rule row one
+      shape-rule = es ∙ ap₂ row_shape (row_is value handed items read i h) (arity-is value handed items read i h) ∙ shape_is one (sources-few value handed items read i h)
+
+      module _ (before : List ℕ) (table : Table) (g : HasTable before table first begun) (s : RuleSuits value table) where
+        sofar : RulesSoFar value before table (one ∷ drop (i + 1) (held_by value).rules) words count
+        unfolding one
+        sofar = subst (λ (rest : List Rule). RulesSoFar value before table rest words count) (from-rule value handed items read i h) (l before table g s)
+
+        fits : Fits (length sofar.made) shape
+        unfolding one
+        fits = let longer = grown-longer sofar.grew in subst (Fits (length sofar.made)) (sym shape-rule) (rule-fit value handed items read i h (length sofar.made) (omega arith))
+
+        still : rules_table (with_node sofar.made shape) (drop (i + 1) (held_by value).rules) ≡ rules_table table (held_by value).rules
+        unfolding rules_table
+        still = ap (λ (new : Shape). rules_table (with_node sofar.made new) (drop (i + 1) (held_by value).rules)) shape-rule ∙ sofar.still
+
+      pub rules-next : (got : Got) → NodeOn (λ table. Fits (length table) shape) (λ table. added table shape) words count after (Ok got) → RuleLoop value first begun after got.count (i + 1)
+      rules-next got x before table g s =
+          let y = sofar before table g s in
+          record {
+            made = with_node y.made shape;
+            grew = grown-then y.grew (with-grows y.made shape);
+            has = (x before y.made y.has (fits before table g s)).has;
+            still = still before table g s;
+          }
+
+      pub rules-full : (reason : Refused) → NodeOn (λ table. Fits (length table) shape) (λ table. added table shape) words count after (Err reason)
+          → TableOn (RuleSuits value) (λ table. rules_table table (held_by value).rules) first begun after (Err reason)
+      rules-full reason x before table g s =
+          let y = sofar before table g s in
+          less-room (subst (Grown (with_node y.made shape)) (still before table g s) (rules-grow (with_node y.made shape) (drop (i + 1) (held_by value).rules)))
+          (x before y.made y.has (fits before table g s))
 
 -- ---- the rows of the rules
 
-rule_rows-snoc : (number : ℕ) (rules : List Rule) (rule : Rule) → rule_rows number (rules ++ (rule ∷ [])) ≡ rule_rows number rules ++ (record { node = number + length rules; target = rule.target } ∷ [])
-unfolding rule_rows
-rule_rows-snoc number [] rule = let e : number ≡ number + 0 = omega arith in ap (λ (m : ℕ). record { node = m; target = rule.target } ∷ []) e
-rule_rows-snoc number (first ∷ rules) rule =
-    let e : suc number + length rules ≡ number + suc (length rules) = omega arith in
-    ap (record { node = number; target = first.target } ∷◌)
-    (rule_rows-snoc (suc number) rules rule ∙ ap (λ (m : ℕ). rule_rows (suc number) rules ++ (record { node = m; target = rule.target } ∷ [])) e)
-
-pub record RuleRowLoop (value : Automaton) (array : List NodeRow) (node i : ℕ) : Type 0 where
-  pub far : i ≤ length (held_by value).rules
+-- the rows so far: with those of the rules from here on they come to what is asked
+pub record RuleRowLoop (value : Automaton) (list : List NodeRow) (node i : ℕ) : Type 0 where
   pub numbered : node ≡ (held_by value).states + i
-  pub listed : record { count = i; places = array } ≡ list_of (rule_rows (suc (held_by value).states) (take i (held_by value).rules))
+  pub far : length list ≡ i
+  pub still : list ++ rule_rows (suc node) (drop i (held_by value).rules) ≡ rule_rows (suc (held_by value).states) (held_by value).rules
 
-module _ (value : Automaton) (handed : Handed value) (n : ℕ) (en : n ≡ value.count) where
-  pub rows_start : (node : ℕ) → node ≡ value.states → RuleRowLoop value (replicate list_places no_row) node 0
-  unfolding rule_rows
-  rows_start node e = record { far = omega arith; numbered = (let s = states-same value handed in omega arith); listed = list-none }
+module _ (value : Automaton) (handed : Handed value) where
+  pub rows_start : (node : ℕ) → node ≡ value.states → RuleRowLoop value [] node 0
+  rows_start node e =
+      let n : node ≡ (held_by value).states = e ∙ states-same value handed in
+      record { numbered = omega arith; far = refl; still = ap (λ (m : ℕ). rule_rows (suc m) (held_by value).rules) n }
 
-  module _ (array : List NodeRow) (node i : ℕ) (l : RuleRowLoop value array node i) where
-    pub rows_end : n ≤ i → record { count = n; places = array } ≡ list_of (rule_rows (suc (held_by value).states) (held_by value).rules)
+  module _ (items : List Row) (read : items ≡ map placed_row (held_by value).rules) (list : List NodeRow) (node i : ℕ) (l : RuleRowLoop value list node i) where
+    pub rows_end : length items ≤ i → list ≡ rule_rows (suc (held_by value).states) (held_by value).rules
+    unfolding rule_rows
     rows_end h =
-        let f = l.far in
-        let j : n ≡ i = omega (arith, rules-count value handed) in
-        ap (λ (m : ℕ). record { count = m; places = array }) j ∙ l.listed
-        ∙ ap (λ (rules : List Rule). list_of (rule_rows (suc (held_by value).states) rules)) (take_all i (held_by value).rules (omega (arith, rules-count value handed)))
+        sym (append-nil list)
+        ∙ ap (λ (rest : List Rule). list ++ rule_rows (suc node) rest) (sym (drop_all i (held_by value).rules (omega (arith, ap length read, length-map (held_by value).rules placed_row))))
+        ∙ l.still
 
-    pub rows-low : i < n → node < 65535
-    rows-low h = let a = l.numbered in let b = rule-place value handed n i en h in let c = handed.valid.few_states in omega arith
+    module _ (h : i < length items) where
+      pub rows-low : node < 65535
+      rows-low = let a = l.numbered in let b = rule-in value handed items read i h in let f = handed.valid.few_rules in let c = handed.valid.few_states in omega arith
 
-    pub rows_next : (h : i < n) → (new : NodeRow) → new ≡ record { node = (node + 1) % 65536; target = (get_or value.rows i past_row).target } → RuleRowLoop value (set array i new) (node + 1) (i + 1)
-    unfolding rule row
-    rows_next h new e =
-        let one = rule value handed n i en h in
-        let so = take i (held_by value).rules in
-        let low = rows-low h in
-        let a = l.numbered in
-        let r = rule-in value handed n i en h in
-        let lt = length-take-le i (held_by value).rules (omega arith) in
-        let few = rule-place value handed n i en h in
-        let is : new ≡ record { node = suc (held_by value).states + length so; target = one.target } =
-        e ∙ ap₂ (λ (m t : ℕ). record { node = m; target = t }) (mod-eq_of_lt (omega arith) ∙ (let z : node + 1 ≡ suc (held_by value).states + length so = omega arith in z)) (target_is value handed n i en h) in
-        record {
-          far = omega arith;
-          numbered = omega arith;
-          listed =
-              list-more (rule_rows (suc (held_by value).states) so) i array l.listed (omega (arith, rule_rows-count (suc (held_by value).states) so)) new
-              ∙ ap (λ (x : NodeRow). list_of (rule_rows (suc (held_by value).states) so ++ (x ∷ []))) is
-              ∙ ap list_of (sym (ap (rule_rows (suc (held_by value).states)) (rules-more value handed n i en h) ∙ rule_rows-snoc (suc (held_by value).states) so one));
-        }
+      pub rows-room : length list < list_places
+      rows-room = let a = l.far in let b = rule-in value handed items read i h in let f = handed.valid.few_rules in omega arith
+
+      pub rows_next : (new : NodeRow) → new ≡ record { node = (node + 1) % 65536; target = (get_or items i past_row).target } → RuleRowLoop value (list ++ (new ∷ [])) (node + 1) (i + 1)
+      unfolding rule row rule_rows
+      rows_next new e =
+          let one = rule value handed items read i h in
+          let rest = drop (i + 1) (held_by value).rules in
+          let low = rows-low in
+          let a = l.numbered in
+          let b = l.far in
+          let is : new ≡ record { node = suc node; target = one.target } =
+          e ∙ ap₂ (λ (m t : ℕ). record { node = m; target = t }) (mod-eq_of_lt (omega arith) ∙ add-one node) (target_is value handed items read i h) in
+          record {
+            numbered = omega arith;
+            far = omega (arith, length-append list (new ∷ []));
+            still =
+                append_assoc list (new ∷ []) (rule_rows (suc (node + 1)) rest)
+                ∙ ap₂ (λ (row : NodeRow) (m : ℕ). list ++ (row ∷ rule_rows (suc m) rest)) is (add-one node)
+                ∙ ap (λ (rules : List Rule). list ++ rule_rows (suc node) rules) (sym (from-rule value handed items read i h))
+                ∙ l.still;
+          }
 
 -- ---- the rows of the final states
 
 abbrev pub with_finals : List NodeRow → ℕ → ℕ → List NodeRow
 with_finals rows finals q = rows ++ map final_node_row (those (has finals) (ascending q))
 
-pub record FinalLoop (rows : List NodeRow) (finals n : ℕ) (array : List NodeRow) (count q : ℕ) : Type 0 where
-  pub far : q ≤ n
-  pub few : count + state_width ≤ list_places + q
-  pub is : record { count = count; places = array } ≡ list_of (with_finals rows finals q)
+pub record FinalLoop (rows : List NodeRow) (finals : ℕ) (list : List NodeRow) (q : ℕ) : Type 0 where
+  pub few : length list ≤ length rows + q
+  pub is : list ≡ with_finals rows finals q
 
-module _ (list : Rows) (finals n : ℕ) (t : list ≡ list_of (rows_in list)) where
-  pub finals-start : length (rows_in list) + state_width ≤ list_places → FinalLoop (rows_in list) finals n list.places list.count 0
+module _ (rows : List NodeRow) (finals : ℕ) where
+  pub finals-start : FinalLoop rows finals rows 0
   unfolding ascending
-  finals-start f =
-      let e = ap (λ (r : Rows). r.count) t ∙ list_count (rows_in list) in
-      record {
-        far = omega arith;
-        few = omega arith;
-        is = t ∙ ap list_of (sym (append-nil (rows_in list)) ∙ ap (λ (qs : List ℕ). rows_in list ++ map final_node_row qs) (sym (those-none (has finals))));
-      }
+  finals-start = record { few = omega arith; is = sym (append-nil rows) ∙ ap (λ (qs : List ℕ). rows ++ map final_node_row qs) (sym (those-none (has finals))) }
 
-  module _ (array : List NodeRow) (count q : ℕ) (l : FinalLoop (rows_in list) finals n array count q) where
+  module _ (list : List NodeRow) (q : ℕ) (l : FinalLoop rows finals list q) where
     next : those (has finals) (ascending (q + 1)) ≡ those (has finals) (ascending q) ++ those (has finals) (q ∷ [])
     unfolding ascending
     next = ap (λ (m : ℕ). those (has finals) (ascending m)) (add-one q) ∙ those-append (has finals) (ascending q) (q ∷ [])
 
-    pub finals-skip : q < n → has finals q ≡ false → FinalLoop (rows_in list) finals n array count (q + 1)
-    finals-skip h e =
+    pub finals-skip : has finals q ≡ false → FinalLoop rows finals list (q + 1)
+    finals-skip e =
         let s : those (has finals) (ascending (q + 1)) ≡ those (has finals) (ascending q) =
         next ∙ ap (those (has finals) (ascending q) ++◌) (those-skip (has finals) q [] e ∙ those-none (has finals)) ∙ append-nil (those (has finals) (ascending q)) in
-        record {
-          far = omega arith;
-          few = (let f = l.few in omega arith);
-          is = l.is ∙ ap (λ (qs : List ℕ). list_of (rows_in list ++ map final_node_row qs)) (sym s);
-        }
+        record { few = (let f = l.few in omega arith); is = l.is ∙ ap (λ (qs : List ℕ). rows ++ map final_node_row qs) (sym s) }
 
-    pub finals-take : n ≤ state_width → q < n → has finals q ≡ true → (row : NodeRow) → row ≡ record { node = (q + 1) % 65536; target = final_target } → FinalLoop (rows_in list) finals n (set array count row) (count + 1) (q + 1)
-    finals-take few h e row er =
+    pub finals-take : q < state_width → has finals q ≡ true → (row : NodeRow) → row ≡ record { node = (q + 1) % 65536; target = final_target } → FinalLoop rows finals (list ++ (row ∷ [])) (q + 1)
+    finals-take h e row er =
         let chosen = those (has finals) (ascending q) in
         let s : those (has finals) (ascending (q + 1)) ≡ chosen ++ (q ∷ []) = next ∙ ap (chosen ++◌) (those-take (has finals) q [] e ∙ ap (q ∷◌) (those-none (has finals))) in
-        let c : count ≡ length (with_finals (rows_in list) finals q) = ap (λ (r : Rows). r.count) l.is ∙ list_count (with_finals (rows_in list) finals q) in
-        let f = l.few in
         let new : row ≡ final_node_row q = er ∙ ap (λ (m : ℕ). record { node = m; target = final_target }) (mod-eq_of_lt (omega arith) ∙ add-one q) in
-        let w : with_finals (rows_in list) finals q ++ (final_node_row q ∷ []) ≡ with_finals (rows_in list) finals (q + 1) =
-        append_assoc (rows_in list) (map final_node_row chosen) (final_node_row q ∷ []) ∙ ap (rows_in list ++◌) (sym (map-append final_node_row chosen (q ∷ [])) ∙ ap (map final_node_row) (sym s)) in
         record {
-          far = omega arith;
-          few = omega arith;
+          few = (let f = l.few in omega (arith, length-append list (row ∷ [])));
           is =
-              ap (λ (r : NodeRow). record { count = count + 1; places = set array count r }) new
-              ∙ list-more (with_finals (rows_in list) finals q) count array l.is (omega arith) (final_node_row q)
-              ∙ ap list_of w;
+              ap₂ (λ (old : List NodeRow) (one : NodeRow). old ++ (one ∷ [])) l.is new
+              ∙ append_assoc rows (map final_node_row chosen) (final_node_row q ∷ [])
+              ∙ ap (rows ++◌) (sym (map-append final_node_row chosen (q ∷ [])) ∙ ap (map final_node_row) (sym s));
         }
-
-    pub finals-end : n ≤ q → record { count = count; places = array } ≡ list_of (with_finals (rows_in list) finals n)
-    finals-end h = let f = l.far in let e : q ≡ n = omega arith in l.is ∙ ap (λ (m : ℕ). list_of (with_finals (rows_in list) finals m)) e

@@ -1,14 +1,14 @@
 -- What the private functions of a conversion promise one another. The public promises cite none of it.
 --
 -- Which row is which: a `Rule` is a row of the file, and `Row` is how an automaton's value has it. A `NodeRow` is a row of the list, a node and a target; it stands in a place of the list. A `ListRow` is a row of the list as it is reported.
-use Rattle.std.specs.Prelude.{ℕ, suc, ◌*◌, ◌≤◌, ◌<◌, ◌≡◌, Bool, cond, not, ◌&&◌, eqb, ltb, List, map, length, get_or, take}
+use Rattle.std.specs.Prelude.{ℕ, suc, ◌*◌, ◌≤◌, ◌<◌, ◌≡◌, Bool, true, cond, not, ◌&&◌, eqb, ltb, List, map, length, get_or, Result, MatchResult}
 use Rattle.sets.specs.Members.{has, size, state_width, of_word}
 use Rattle.ground.specs.Lists.{All, filled, those}
-use Rattle.buffers.specs.Writing.{all_zero}
 use Rattle.automaton.specs.declared.Row.{Row}
 use Rattle.automaton.specs.Held.{Held}
 use Rattle.automaton.specs.Checks.{holds, verdict}
-use Rattle.automaton.specs.Refusals.{refusal, no_refusal}
+use Rattle.automaton.specs.declared.Refused.{Refused}
+use Rattle.automaton.specs.Refusals.{number_of}
 use Rattle.expressions.specs.declared.Shape.{Shape}
 use Rattle.expressions.specs.declared.Node.{Node}
 use Rattle.expressions.specs.Nodes.{Table, node_at, label_of, symbol_shape}
@@ -16,14 +16,15 @@ use Rattle.expressions.specs.Words.{node_width, node_in}
 use Rattle.expressions.specs.Soundness.{most_nodes}
 use Rattle.theory.specs.declared.NodeRow.{NodeRow}
 use Rattle.theory.specs.RowLists.{list_places}
-use Rattle.theory.specs.Stages.{Stage, Made, already, alt_made, iter_made, join_made, nodes, looping_node}
+use Rattle.theory.specs.Stages.{Stage, Made, iter_made, join_made, nodes, looping_node}
 use Rattle.elimination.specs.declared.ListRow.{ListRow}
 use Rattle.elimination.specs.declared.Partly.{Partly}
 use Rattle.elimination.specs.declared.Wholly.{Wholly}
 use Rattle.elimination.specs.declared.maker.Got.{Got}
-use Rattle.elimination.specs.declared.rows.Rows.{Rows}
+use Rattle.elimination.specs.declared.step.Pick.{Pick}
+use Rattle.elimination.specs.declared.step.Pick.TheVariants.{Looping, Incoming, Every}
 use Rattle.elimination.specs.declared.rows.Staged.{Staged}
-use Rattle.elimination.specs.Answers.{written_to, unused_place, refused_partly, PartlyAnswered, refused_whole, WhollyAnswered}
+use Rattle.elimination.specs.Answers.{written_to, unused_place, PartlyAnswered, WhollyAnswered}
 
 -- ---- makers of nodes
 
@@ -32,33 +33,35 @@ pub record Ready (words : List ℕ) (count : ℕ) : Type 0 where
   pub few : count ≤ most_nodes
   pub roomy : node_width * count ≤ length words
 
--- the number of nodes that says that there was no room: more than a table may have
-abbrev pub no_room : ℕ
-no_room = suc most_nodes
+-- they have none for this table, and the refusal says so [4.22]
+pub record NoRoom (before : List ℕ) (table : Table) (reason : Refused) : Type 0 where
+  pub none : Ready before (length table) → ⊥
+  pub short : number_of reason ≡ 6
 
--- the words have this table, and the answer this node of it
-pub record HasNode (before : List ℕ) (made : Made) (after : List ℕ) (r : Got) : Type 0 where
-  pub words : after ≡ written_to before made.table
-  pub counted : r.count ≡ length made.table
-  pub node : r.node ≡ made.node
+-- the words, which had room for it, have this table, of so many nodes
+pub record HasTable (before : List ℕ) (table : Table) (after : List ℕ) (count : ℕ) : Type 0 where
+  pub room : Ready before (length table)
+  pub words : after ≡ written_to before table
+  pub counted : count ≡ length table
 
--- so it is where there is room for the table; where there is none, the answer says so
-pub record GivesNode (before : List ℕ) (made : Made) (after : List ℕ) (r : Got) : Type 0 where
-  pub done : Ready before (length made.table) → HasNode before made after r
-  pub over : (Ready before (length made.table) → ⊥) → r.count ≡ no_room
+-- and this node of it was asked for
+pub record HasNode (before : List ℕ) (made : Made) (after : List ℕ) (got : Got) : Type 0 where
+  pub has : HasTable before made.table after got.count
+  pub node : got.node ≡ made.node
 
--- the table alone
-abbrev pub GivesTable : List ℕ → Table → List ℕ → Got → Type 0
-GivesTable before table after r = GivesNode before (already table r.node) after r
+-- a maker's result: the table, or the table and a node; or that there is no room for the table
+abbrev pub GivesTable : List ℕ → Table → List ℕ → Result ℕ Refused → Type 0
+GivesTable before table after r = MatchResult r (HasTable before table after) (NoRoom before table)
 
--- what a maker promises that goes on from what another gave, from whatever words that began: it makes one step more. What it goes on from must suit it, if there was room for that
-abbrev pub GoesOn : (Made → Type 0) → (Made → Made) → List ℕ → Got → List ℕ → Got → Type 0
-GoesOn Suits step words last after r =
-    (before : List ℕ) (made : Made) → GivesNode before made words last → (Ready before (length made.table) → Suits made) → GivesNode before (step made) after r
+abbrev pub GivesNode : List ℕ → Made → List ℕ → Result Got Refused → Type 0
+GivesNode before made after r = MatchResult r (HasNode before made after) (NoRoom before made.table)
 
--- the same of the table alone; what it goes on from must suit it in any case
-abbrev pub TableOn : (Table → Type 0) → (Table → Table) → List ℕ → Got → List ℕ → Got → Type 0
-TableOn Suits step words last after r = (before : List ℕ) (table : Table) → GivesTable before table words last → Suits table → GivesTable before (step table) after r
+-- what a maker promises that goes on from a table which suits it, from whatever words that began: it makes one step more
+abbrev pub TableOn : (Table → Type 0) → (Table → Table) → List ℕ → ℕ → List ℕ → Result ℕ Refused → Type 0
+TableOn Suits step words count after r = (before : List ℕ) (table : Table) → HasTable before table words count → Suits table → GivesTable before (step table) after r
+
+abbrev pub NodeOn : (Table → Type 0) → (Table → Made) → List ℕ → ℕ → List ℕ → Result Got Refused → Type 0
+NodeOn Suits step words count after r = (before : List ℕ) (table : Table) → HasTable before table words count → Suits table → GivesNode before (step table) after r
 
 -- ---- the row list
 
@@ -66,53 +69,42 @@ TableOn Suits step words last after r = (before : List ℕ) (table : Table) → 
 abbrev pub no_row : NodeRow
 no_row = record { node = 0; target = 0 }
 
--- the rows of a list, and the list of these rows with every other place unused
-unfoldable pub rows_in : Rows → List NodeRow
-rows_in list = take list.count list.places
-
-unfoldable pub list_of : List NodeRow → Rows
-list_of rows = record { count = length rows; places = filled list_places no_row rows }
-
--- a list has all its places, and no more rows than places; what stands past the rows is of no account
-pub record Tidy (list : Rows) : Type 0 where
-  pub few : list.count ≤ list_places
-  pub whole : length list.places ≡ list_places
-
--- the rows of a list, after a table
-abbrev pub stage_of : Table → Rows → Stage
-stage_of table list = record { table = table; rows = rows_in list }
+-- rows, after a table
+abbrev pub stage_of : Table → List NodeRow → Stage
+stage_of table rows = record { table = table; rows = rows }
 
 -- rows whose nodes a table has
 abbrev pub LowRows : List NodeRow → Table → Type 0
 LowRows rows table = All (λ row. row.node < length table) rows
 
+-- two nodes that a table has
+abbrev pub Both : ℕ → ℕ → Table → Type 0
+Both a b table = (a < length table) × (b < length table)
+
+-- a node and rows that a table has
+abbrev pub NodeAndRows : ℕ → List NodeRow → Table → Type 0
+NodeAndRows node rows table = (node < length table) × LowRows rows table
+
+abbrev pub NodeAndStage : ℕ → Stage → Type 0
+NodeAndStage node stage = NodeAndRows node stage.rows stage.table
+
 -- ---- makers of rows
 
--- the words have the table of a stage, and the answer its rows
-pub record HasStage (before : List ℕ) (stage : Stage) (after : List ℕ) (r : Staged) : Type 0 where
-  pub words : after ≡ written_to before stage.table
-  pub counted : r.count ≡ length stage.table
-  pub listed : rows_in r.list ≡ stage.rows
+-- the words have the table of a stage, and these are its rows
+pub record HasStage (before : List ℕ) (stage : Stage) (after : List ℕ) (staged : Staged) : Type 0 where
+  pub has : HasTable before stage.table after staged.count
+  pub listed : staged.list ≡ stage.rows
 
--- so it is where there is room; where there is none, the answer says so
-pub record GivesStage (before : List ℕ) (stage : Stage) (after : List ℕ) (r : Staged) : Type 0 where
-  pub done : Ready before (length stage.table) → HasStage before stage after r
-  pub over : (Ready before (length stage.table) → ⊥) → r.count ≡ no_room
+-- so it is; or there is no room for the table
+abbrev pub GivesStage : List ℕ → Stage → List ℕ → Result Staged Refused → Type 0
+GivesStage before stage after r = MatchResult r (HasStage before stage after) (NoRoom before stage.table)
 
--- a stage that a state may be taken out of: few rows, whose nodes the table has
-pub record Workable (stage : Stage) : Type 0 where
-  pub few : length stage.rows ≤ list_places
-  pub low : LowRows stage.rows stage.table
+-- what a maker of rows promises that goes on from a table, or from what another maker of rows gave
+abbrev pub StageOn : (Table → Type 0) → (Table → Stage) → List ℕ → ℕ → List ℕ → Result Staged Refused → Type 0
+StageOn Suits step words count after r = (before : List ℕ) (table : Table) → HasTable before table words count → Suits table → GivesStage before (step table) after r
 
--- what a maker of rows promises that goes on from what a maker of nodes gave; its list is in order in any case
-pub record RowsOn (Suits : Made → Type 0) (step : Made → Stage) (words : List ℕ) (last : Got) (after : List ℕ) (r : Staged) : Type 0 where
-  pub tidy : Tidy r.list
-  pub goes : (before : List ℕ) (made : Made) → GivesNode before made words last → (Ready before (length made.table) → Suits made) → GivesStage before (step made) after r
-
--- and from what another maker of rows gave
-pub record StagesOn (Suits : Stage → Type 0) (step : Stage → Stage) (words : List ℕ) (last : Staged) (after : List ℕ) (r : Staged) : Type 0 where
-  pub tidy : Tidy r.list
-  pub goes : (before : List ℕ) (stage : Stage) → GivesStage before stage words last → Suits stage → GivesStage before (step stage) after r
+abbrev pub StagesOn : (Stage → Type 0) → (Stage → Stage) → List ℕ → Staged → List ℕ → Result Staged Refused → Type 0
+StagesOn Suits step words begun after r = (before : List ℕ) (stage : Stage) → HasStage before stage words begun → Suits stage → GivesStage before (step stage) after r
 
 -- ---- the start
 
@@ -131,22 +123,18 @@ row_shape row arity =
 abbrev pub open_in : ℕ → Node → Bool
 open_in q node = has (of_word state_width node.opens) q
 
--- a row to q where q is open, or where it is not, by its target and its node
-abbrev pub picked_by : ℕ → Bool → ℕ → Node → Bool
-picked_by q looping target node = eqb target q && cond looping (open_in q node) (not (open_in q node))
+-- is a row picked, by its target and its node?
+abbrev pub picked_by : Pick → ℕ → Node → Bool
+picked_by (Looping q) target node = eqb target q && open_in q node
+picked_by (Incoming q) target node = eqb target q && not (open_in q node)
+picked_by Every target node = true
 
-abbrev pub picks : ℕ → Bool → Table → NodeRow → Bool
-picks q looping table row = picked_by q looping row.target (node_at table row.node)
+abbrev pub picks : Pick → Table → NodeRow → Bool
+picks pick table row = picked_by pick row.target (node_at table row.node)
 
 -- the rows of a stage that are picked, joined
-abbrev pub picked_made : ℕ → Bool → Stage → Made
-picked_made q looping stage = join_made stage.table (nodes (those (picks q looping stage.table) stage.rows))
-
--- a row's node joined to a node, where the row is picked
-unfoldable pub joined_row : ℕ → Bool → NodeRow → Made → Made
-joined_row q looping row made =
-    let joined = alt_made made.table made.node row.node in
-    cond (picks q looping made.table row) joined made
+abbrev pub picked_made : Pick → Stage → Made
+picked_made pick stage = join_made stage.table (nodes (those (picks pick stage.table) stage.rows))
 
 -- A and I
 unfoldable pub loop_made : ℕ → Stage → Made
@@ -160,18 +148,8 @@ loop_made q stage =
 abbrev pub reported_row : List ℕ → NodeRow → ListRow
 reported_row words row = record { node = row.node; target = row.target; waits = size state_width (node_in words row.node).opens }
 
-abbrev pub reported_rows : List ℕ → Rows → List ListRow
-reported_rows words list = filled list_places unused_place (map (reported_row words) (rows_in list))
-
--- a stop: 6 and every word 0 where there was no room, else the numbers and the list
-pub record ReportsStop (before : List ℕ) (staged : Staged) (after : List ℕ) (r : Partly) : Type 0 where
-  pub short : most_nodes < staged.count → (r ≡ refused_partly (refusal 6)) × (after ≡ all_zero before)
-  pub done : staged.count ≤ most_nodes → (r ≡ record { refusal = no_refusal; nodes = staged.count; rows = staged.list.count; list = reported_rows before staged.list }) × (after ≡ before)
-
--- an end: the same with the answer
-pub record ReportsAnswer (before : List ℕ) (got : Got) (after : List ℕ) (r : Wholly) : Type 0 where
-  pub short : most_nodes < got.count → (r ≡ refused_whole (refusal 6)) × (after ≡ all_zero before)
-  pub done : got.count ≤ most_nodes → (r ≡ record { refusal = no_refusal; nodes = got.count; answer = got.node }) × (after ≡ before)
+abbrev pub reported_rows : List ℕ → List NodeRow → List ListRow
+reported_rows words rows = filled list_places unused_place (map (reported_row words) rows)
 
 -- the public promises, for every file that holds this automaton
 abbrev pub PartlyOf : Held → ℕ → List ℕ → List ℕ → Partly → Type 0

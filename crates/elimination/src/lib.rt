@@ -7,6 +7,8 @@ ghost use Rattle.automaton.specs.Handed.{Handed};
 ghost use Rattle.elimination.specs.Answers.{PartlyAnswered, WhollyAnswered, partly_answer, wholly_answer};
 ghost use Rattle.elimination.specs.Inside.{PartlyOf, WhollyOf};
 
+use crate::maker::Got;
+use crate::rows::Staged;
 use automaton::{Automaton, Refusal, Refused};
 use ground::Wide;
 
@@ -15,6 +17,7 @@ mod maker;
 mod report;
 mod rows;
 mod start;
+mod state;
 mod step;
 
 // The places of the row list: one for each row that a file may have, and one for each state.
@@ -22,7 +25,7 @@ pub const LIST_PLACES: usize = automaton::ROW_PLACES + automaton::MOST_STATES as
 
 // A row of a partial conversion's list: its node, its target, and how many different states it still waits for.
 #[repr(C)]
-#[derive(Clone, Copy)]
+#[derive(Clone, Copy, PartialEq, Eq, Debug)]
 pub struct ListRow {
     pub node: u16,
     pub target: u8,
@@ -30,7 +33,7 @@ pub struct ListRow {
 }
 
 // A conversion stopped after some states: the number of nodes, the number of rows, and the list; places past the rows are 0.
-#[derive(Clone, Copy)]
+#[derive(Clone, Copy, PartialEq, Eq, Debug)]
 pub struct Stopped {
     pub nodes: usize,
     pub rows: usize,
@@ -63,7 +66,7 @@ impl From<Result<Stopped, Refused>> for Partly {
 }
 
 // A full conversion: the number of nodes, and the answer's node.
-#[derive(Clone, Copy)]
+#[derive(Clone, Copy, PartialEq, Eq, Debug)]
 pub struct Converted {
     pub nodes: usize,
     pub answer: usize,
@@ -103,8 +106,17 @@ fn partly_of(nodes: &mut [u32], value: Automaton, k: u32) -> Result<Stopped, Ref
     if value.states.wide() < k {
         return Err(Refused::TooFar);
     }
-    let staged = course::partly(nodes, value, k);
-    report::stop(nodes, staged)
+    let staged = course::partly(nodes, &value, k);
+    if staged.is_err() {
+        buffers::zero(nodes);
+    }
+    let Staged { count, list } = staged?;
+    let rows = list.rows();
+    Ok(Stopped {
+        nodes: count as usize,
+        rows: rows.len(),
+        list: report::list_rows(nodes, rows),
+    })
 }
 
 // The automaton of a file after the first k states are taken out: the nodes go to the lent words.
@@ -119,8 +131,15 @@ fn wholly_of(nodes: &mut [u32], value: Automaton) -> Result<Converted, Refused>
     requires { Handed value }
     ensures { WhollyOf (held_by value) nodes.old nodes.new (wholly_answer result) }
 {
-    let got = course::wholly(nodes, value);
-    report::answer(nodes, got)
+    let made = course::wholly(nodes, &value);
+    if made.is_err() {
+        buffers::zero(nodes);
+    }
+    let Got { count, node } = made?;
+    Ok(Converted {
+        nodes: count as usize,
+        answer: node as usize,
+    })
 }
 
 // The expression of a file's automaton: the nodes go to the lent words.

@@ -1,14 +1,10 @@
-// What a conversion reports: a refusal, a stop's list with what each row waits for, or an answer. Where there was no room, every word is 0.
-ghost use Rattle.std.specs.Prelude.{◌≡◌, replicate};
+// What a stop reports: its list, with what each row waits for.
+ghost use Rattle.std.specs.Prelude.{◌≡◌, ◌≤◌, length, replicate};
 ghost use Rattle.theory.specs.RowLists.{list_places};
-ghost use Rattle.elimination.specs.Answers.{unused_place, partly_answer, wholly_answer};
-ghost use Rattle.elimination.specs.Inside.{Tidy, reported_row, reported_rows, ReportsStop, ReportsAnswer};
+ghost use Rattle.elimination.specs.Answers.{unused_place};
+ghost use Rattle.elimination.specs.Inside.{reported_row, reported_rows};
 
-use crate::maker::Got;
-use crate::rows::{Rows, Staged};
-use crate::{Converted, LIST_PLACES, ListRow, Stopped, maker, rows};
-use automaton::Refused;
-use expressions::MOST_NODES;
+use crate::{LIST_PLACES, ListRow, Stopped, maker};
 use ground::Wide;
 use theory::NodeRow;
 
@@ -52,47 +48,13 @@ fn list_row(words: &[u32], row: NodeRow) -> ListRow
 }
 
 // The list, with the waiting number of each row.
-fn list_rows(words: &[u32], list: Rows) -> [ListRow; LIST_PLACES]
-    requires { Tidy list }
-    ensures { result ≡ reported_rows words.now list }
+pub fn list_rows(words: &[u32], rows: &[NodeRow]) -> [ListRow; LIST_PLACES]
+    requires { length rows.now ≤ list_places }
+    ensures { result ≡ reported_rows words.now rows.now }
 {
     let mut out = no_rows();
-    let mut i: usize = 0;
-    while i < list.count {
-        let row = list.places[i];
+    for (i, &row) in rows.iter().enumerate() {
         out[i] = list_row(words, row);
-        i += 1;
     }
     out
-}
-
-// A stop of a conversion.
-pub fn stop(words: &mut [u32], staged: Staged) -> Result<Stopped, Refused>
-    requires { Tidy staged.list }
-    ensures { ReportsStop words.old staged words.new (partly_answer result) }
-{
-    if MOST_NODES < staged.count as usize {
-        buffers::zero(words);
-        return Err(Refused::Short);
-    }
-    let list = list_rows(&words[..], staged.list);
-    Ok(Stopped {
-        nodes: staged.count as usize,
-        rows: staged.list.count,
-        list,
-    })
-}
-
-// The end of a conversion.
-pub fn answer(words: &mut [u32], got: Got) -> Result<Converted, Refused>
-    ensures { ReportsAnswer words.old got words.new (wholly_answer result) }
-{
-    if MOST_NODES < got.count as usize {
-        buffers::zero(words);
-        return Err(Refused::Short);
-    }
-    Ok(Converted {
-        nodes: got.count as usize,
-        answer: got.node as usize,
-    })
 }

@@ -1,38 +1,66 @@
 // The row list, and what its makers answer.
 //
 // Which row is which: a rule is a row of the file, and stands in an automaton's value as a `Row`. A row of the list is a node and a target, a
-// `NodeRow`; the list has a fixed number of places for such rows. A `ListRow` is a row of the list as it is reported, with its waiting number.
-ghost use Rattle.std.specs.Prelude.{◌≡◌, ◌%◌, replicate};
+// `NodeRow`; the list has room for a fixed number of such rows. A `ListRow` is a row of the list as it is reported, with its waiting number.
+ghost use Rattle.std.specs.Prelude.{◌≡◌, ◌%◌, ◌<◌, ◌≤◌, List, [], ◌∷◌, ◌++◌, length, take};
+ghost use Rattle.theory.specs.declared.NodeRow.{NodeRow};
 ghost use Rattle.theory.specs.RowLists.{list_places};
-ghost use Rattle.elimination.specs.Inside.{no_row};
 
 use crate::LIST_PLACES;
+use std::marker::Model;
 use theory::NodeRow;
 
 // The target of a final state's row: the added state, after those that a file may have.
 pub const FINAL_TARGET: u8 = automaton::MOST_STATES;
 
-const UNUSED: NodeRow = NodeRow { node: 0, target: 0 };
-
-// The list: so many rows, in order, at its first places.
-#[derive(Clone, Copy)]
+// The list. No heap is used, so its rows stand in a fixed number of places; what stands past them is of no account.
+#[derive(Drop)]
 pub struct Rows {
-    pub count: usize,
-    pub places: [NodeRow; LIST_PLACES],
+    count: usize,
+    places: [NodeRow; LIST_PLACES],
 }
 
-// What a maker of rows answers: the number of nodes, or that there was no room, and the list.
-#[derive(Clone, Copy)]
+// Clauses see the rows, in order.
+impl Model for Rows {
+    ghost Value = { List NodeRow };
+
+    ghost view = { λ list. take list.count list.places };
+
+    ghost invariant = { λ list. list.count ≤ list_places };
+}
+
+impl Rows {
+    pub fn new() -> Rows
+        ensures { result ≡ [] }
+    {
+        let unused = NodeRow { node: 0, target: 0 };
+        Rows {
+            count: 0,
+            places: [unused; LIST_PLACES],
+        }
+    }
+
+    pub fn push(&mut self, row: NodeRow)
+        requires { length self.old < list_places }
+        ensures { self.new ≡ self.old ++ row ∷ [] }
+    {
+        self.places[self.count] = row;
+        self.count += 1;
+    }
+
+    pub fn rows(&self) -> &[NodeRow]
+        ensures rows { result.now ≡ self.now }
+        ensures few { length self.now ≤ list_places }
+    {
+        &self.places[..self.count]
+    }
+}
+
+// What a maker of rows made: the number of nodes, and the list.
+#[derive(Drop)]
 pub struct Staged {
     pub count: u32,
     pub list: Rows,
-}
-
-// Every place unused.
-pub fn no_places() -> [NodeRow; LIST_PLACES]
-    ensures { result ≡ replicate list_places no_row }
-{
-    [UNUSED; LIST_PLACES]
 }
 
 // A row of the list. The nodes of a table have numbers that 16 bits hold.

@@ -1,35 +1,32 @@
 // The start of a conversion: the empty node, the holes, the nodes of the file's rows, and the list.
 ghost use Rattle.std.specs.Prelude.{◌≡◌, ◌++◌, map, suc, ◌+◌, ◌<◌, ◌≤◌, length, get_or};
 ghost use Rattle.sets.specs.Members.{has, state_width};
-ghost use Rattle.automaton.specs.Answers.{held_by};
+ghost use Rattle.automaton.specs.Answers.{held_by, placed_row};
 ghost use Rattle.automaton.specs.Handed.{Handed};
 ghost use Rattle.automaton.specs.Held.{most_symbols, most_arity};
 ghost use Rattle.ground.specs.Lists.{those};
 ghost use Rattle.theory.specs.RowLists.{ascending, list_places};
 ghost use Rattle.theory.specs.Stages.{holes_table, rules_table, rule_rows, final_node_row, start};
-ghost use Rattle.elimination.specs.Inside.{GivesTable, TableOn, GivesStage, Tidy, rows_in, list_of, child_of, row_shape};
+ghost use Rattle.elimination.specs.Inside.{GivesTable, TableOn, GivesStage, child_of, row_shape};
 
-use crate::maker::Got;
+use crate::maker::{EMPTY, HOLE, SYMBOL};
 use crate::rows::{Rows, Staged};
 use crate::{maker, rows};
-use automaton::{Automaton, Row, SYMBOL_PLACES};
+use automaton::{Automaton, Refused, Row, SYMBOL_PLACES};
 use expressions::{ARITY_STEP, Shape};
 use ground::Wide;
 use sets::StateSet;
 
-// The empty node and the holes of n states.
-fn put_holes(words: &mut [u32], n: u32) -> Got
+// The empty node and the holes of n states, and how many nodes they are.
+fn put_holes(words: &mut [u32], n: u32) -> Result<u32, Refused>
     requires { n ≤ state_width }
     ensures { GivesTable words.old (holes_table n) words.new result }
 {
-    let none = Got { count: 0, node: 0 };
-    let mut got = maker::new_node(words, none, 0, 0, 0, 0, 0);
-    let mut q: u32 = 0;
-    while q < n {
-        got = maker::new_node(words, got, 1, q, 0, 0, 0);
-        q += 1;
+    let mut count = maker::new_node(words, 0, EMPTY, 0, 0, 0, 0)?.count;
+    for q in 0..n {
+        count = maker::new_node(words, count, HOLE, q, 0, 0, 0)?.count;
     }
-    got
+    Ok(count)
 }
 
 // The child at a place of a rule's node: the source's hole, where there is one.
@@ -55,7 +52,7 @@ fn rule_shape(rule: Row, arities: &[u8; SYMBOL_PLACES]) -> Shape
     let second = child(1, arity, sources[1]);
     let third = child(2, arity, sources[2]);
     Shape {
-        kind: 2,
+        kind: SYMBOL,
         label: rule.symbol.wide() + ARITY_STEP * arity,
         first,
         second,
@@ -63,84 +60,69 @@ fn rule_shape(rule: Row, arities: &[u8; SYMBOL_PLACES]) -> Shape
     }
 }
 
-// The nodes of the rules.
-fn put_rules(words: &mut [u32], last: Got, value: Automaton) -> Got
-    requires { Handed value }
-    ensures { TableOn (λ table. (held_by value).states < length table) (λ table. rules_table table (held_by value).rules) words.old last words.new result }
+// The rules of an automaton.
+fn rules(value: &Automaton) -> &[Row]
+    requires { Handed value.now }
+    ensures { result.now ≡ map placed_row (held_by value.now).rules }
 {
-    let arities = value.arities;
-    let n = ground::index(value.count);
-    let mut got = last;
-    let mut i: usize = 0;
-    while i < n {
-        let rule = value.rows[i];
-        let shape = rule_shape(rule, &arities);
-        got = maker::new_node(
-            words,
-            got,
-            shape.kind,
-            shape.label,
-            shape.first,
-            shape.second,
-            shape.third,
-        );
-        i += 1;
+    &value.rows[..ground::index(value.count)]
+}
+
+// The nodes of the rules, and how many nodes there are with them.
+fn put_rules(words: &mut [u32], begun: u32, value: &Automaton) -> Result<u32, Refused>
+    requires { Handed value.now }
+    ensures { TableOn (λ table. (held_by value.now).states < length table) (λ table. rules_table table (held_by value.now).rules) words.old begun words.new result }
+{
+    let mut count = begun;
+    for &rule in rules(value) {
+        let Shape {
+            kind,
+            label,
+            first,
+            second,
+            third,
+        } = rule_shape(rule, &value.arities);
+        count = maker::new_node(words, count, kind, label, first, second, third)?.count;
     }
-    got
+    Ok(count)
 }
 
 // The rows of the rules, whose nodes stand in their order after the holes.
-fn rule_rows(value: Automaton) -> Rows
-    requires { Handed value }
-    ensures { result ≡ list_of (rule_rows (suc (held_by value).states) (held_by value).rules) }
+fn rule_rows(value: &Automaton) -> Rows
+    requires { Handed value.now }
+    ensures { result ≡ rule_rows (suc (held_by value.now).states) (held_by value.now).rules }
 {
-    let n = ground::index(value.count);
-    let mut places = rows::no_places();
+    let mut list = Rows::new();
     let mut node = value.states.wide();
-    let mut i: usize = 0;
-    while i < n {
-        let rule = value.rows[i];
+    for rule in rules(value) {
         node += 1;
-        places[i] = rows::row(node, rule.target);
-        i += 1;
+        list.push(rows::row(node, rule.target));
     }
-    Rows { count: n, places }
+    list
 }
 
 // The rows of the final states, the lowest first, after other rows.
-fn put_finals(list: Rows, n: u32, finals: StateSet) -> Rows
+fn put_finals(list: &mut Rows, n: u32, finals: StateSet)
     requires n_le_state_width { n ≤ state_width }
-    requires list_value { list ≡ list_of (rows_in list) }
-    requires state_width_len_bound { length (rows_in list) + state_width ≤ list_places }
-    ensures { result ≡ list_of (rows_in list ++ map final_node_row (those (has finals.0) (ascending n))) }
+    requires state_width_len_bound { length list.old + state_width ≤ list_places }
+    ensures { list.new ≡ list.old ++ map final_node_row (those (has finals.0) (ascending n)) }
 {
-    let mut places = list.places;
-    let mut count = list.count;
-    let mut q: u32 = 0;
-    while q < n {
-        let state = q;
-        q += 1;
-        if finals.has(state) {
-            places[count] = rows::row(q, rows::FINAL_TARGET);
-            count += 1;
+    for q in 0..n {
+        if finals.has(q) {
+            list.push(rows::row(q + 1, rows::FINAL_TARGET));
         }
     }
-    Rows { count, places }
 }
 
 // The table and the list of the start.
-pub fn begin(words: &mut [u32], value: Automaton) -> Staged
-    requires { Handed value }
-    ensures tidy { Tidy result.list }
-    ensures gives_stage { GivesStage words.old (start (held_by value)) words.new result }
+pub fn begin(words: &mut [u32], value: &Automaton) -> Result<Staged, Refused>
+    requires { Handed value.now }
+    ensures { GivesStage words.old (start (held_by value.now)) words.new result }
 {
     let n = value.states.wide();
-    let finals = value.finals;
-    let list = put_finals(rule_rows(value), n, finals);
-    let holes = put_holes(words, n);
-    let got = put_rules(words, holes, value);
-    Staged {
-        count: got.count,
-        list,
-    }
+    let mut list = rule_rows(value);
+    put_finals(&mut list, n, value.finals);
+    let holes = put_holes(words, n)?;
+    let count = put_rules(words, holes, value)?;
+    Ok(Staged { count, list })
 }

@@ -1,134 +1,114 @@
 // One state taken out of the row list. It may be any state.
-ghost use Rattle.std.specs.Prelude.{◌≡◌, ◌<◌, length};
-ghost use Rattle.sets.specs.Members.{state_width};
+ghost use Rattle.std.specs.Prelude.{◌≡◌, ◌<◌, ◌≤◌, length};
 ghost use Rattle.expressions.specs.Words.{node_in};
 ghost use Rattle.ground.specs.Lists.{those};
+ghost use Rattle.theory.specs.RowLists.{list_places};
 ghost use Rattle.theory.specs.Stages.{hole_at, replaced_made, replaced_rows, remains_node, stand_in_made, eliminated_stage};
-ghost use Rattle.elimination.specs.Inside.{GoesOn, RowsOn, StagesOn, Tidy, Workable, LowRows, rows_in, stage_of, picked_by, picked_made, joined_row, loop_made};
+ghost use Rattle.elimination.specs.Inside.{Both, NodeOn, StageOn, StagesOn, NodeAndRows, NodeAndStage, stage_of, picked_by, picked_made, loop_made};
 
 use crate::maker::Got;
 use crate::rows::{Rows, Staged};
+use crate::state::State;
 use crate::{maker, rows};
+use automaton::Refused;
 use ground::Wide;
 use theory::NodeRow;
 
-// Does the row go to q, with q open in it, or with q not open?
-fn picked(words: &[u32], row: NodeRow, q: u32, looping: bool) -> bool
-    ensures { result ≡ picked_by q looping row.target (node_in words.now row.node) }
+// Which rows are joined: the looping ones of a state, its incoming ones, or every one. A closure in its place is no plainer: `join_rows` would
+// have to promise something of its answers for every table.
+#[derive(Clone, Copy, PartialEq, Eq, Debug)]
+pub enum Pick {
+    Looping(u32),
+    Incoming(u32),
+    Every,
+}
+
+// Is the row one of those?
+fn picked(words: &[u32], row: NodeRow, pick: Pick) -> bool
+    ensures { result ≡ picked_by pick row.target (node_in words.now row.node) }
 {
-    if row.target.wide() == q {
-        let open = maker::opens(words, row.node.wide(), q);
-        if looping {
-            return open;
+    match pick {
+        Pick::Looping(q) => row.target.wide() == q && maker::opens(words, row.node.wide(), q),
+        Pick::Incoming(q) => row.target.wide() == q && !maker::opens(words, row.node.wide(), q),
+        Pick::Every => true,
+    }
+}
+
+// The nodes of some rows joined.
+pub fn join_rows(
+    words: &mut [u32],
+    count: u32,
+    rows: &[NodeRow],
+    pick: Pick,
+) -> Result<Got, Refused>
+    ensures { NodeOn (NodeAndRows 0 rows.now) (λ table. picked_made pick (stage_of table rows.now)) words.old count words.new result }
+{
+    let mut got = Got { count, node: 0 };
+    for &row in rows {
+        if picked(&words[..], row, pick) {
+            got = maker::make_alt(words, got.count, got.node, row.node.wide())?;
         }
-        return !open;
     }
-    false
-}
-
-// A row's node joined to what there is so far, where the row is picked.
-fn join_row(words: &mut [u32], left: Got, row: NodeRow, q: u32, looping: bool) -> Got
-    ensures { GoesOn (λ made. (made.node < length made.table) × (row.node < length made.table)) (joined_row q looping row) words.old left words.new result }
-{
-    if picked(&words[..], row, q, looping) {
-        return maker::make_alt(words, left, row.node.wide());
-    }
-    left
-}
-
-// The looping rows of q joined, or the incoming ones.
-pub fn join_rows(words: &mut [u32], last: Got, list: Rows, q: u32, looping: bool) -> Got
-    requires { Tidy list }
-    ensures { GoesOn (λ made. (0 < length made.table) × LowRows (rows_in list) made.table) (λ made. picked_made q looping (stage_of made.table list)) words.old last words.new result }
-{
-    let mut got = Got {
-        count: last.count,
-        node: 0,
-    };
-    let mut i: usize = 0;
-    while i < list.count {
-        let row = list.places[i];
-        i += 1;
-        got = join_row(words, got, row, q, looping);
-    }
-    got
+    Ok(got)
 }
 
 // A, the looping rows joined, and then I, its iteration.
-fn loop_node(words: &mut [u32], last: Got, list: Rows, q: u32) -> Got
-    requires tidy { Tidy list }
-    requires q_lt_state_width { q < state_width }
-    ensures { GoesOn (λ made. (hole_at q < length made.table) × LowRows (rows_in list) made.table) (λ made. loop_made q (stage_of made.table list)) words.old last words.new result }
+fn loop_node(words: &mut [u32], count: u32, rows: &[NodeRow], q: State) -> Result<Got, Refused>
+    ensures { NodeOn (NodeAndRows (hole_at q.number) rows.now) (λ table. loop_made q.number (stage_of table rows.now)) words.old count words.new result }
 {
-    let a = join_rows(words, last, list, q, true);
-    maker::make_iter(words, a, q)
+    let a = join_rows(words, count, rows, Pick::Looping(q.number))?;
+    maker::make_iter(words, a.count, q, a.node)
 }
 
 // After I also B, the incoming rows joined, and X, which stands in for q.
-fn stand_in(words: &mut [u32], last: Got, list: Rows, q: u32) -> Got
-    requires tidy { Tidy list }
-    requires q_lt_state_width { q < state_width }
-    ensures { GoesOn (λ made. (hole_at q < length made.table) × LowRows (rows_in list) made.table) (λ made. stand_in_made q (stage_of made.table list)) words.old last words.new result }
+fn stand_in(words: &mut [u32], count: u32, rows: &[NodeRow], q: State) -> Result<Got, Refused>
+    ensures { NodeOn (NodeAndRows (hole_at q.number) rows.now) (λ table. stand_in_made q.number (stage_of table rows.now)) words.old count words.new result }
 {
-    let i = loop_node(words, last, list, q);
-    let b = join_rows(words, i, list, q, false);
-    maker::make_cat(words, b, q, i.node, b.node)
+    let i = loop_node(words, count, rows, q)?;
+    let b = join_rows(words, i.count, rows, Pick::Incoming(q.number))?;
+    maker::make_cat(words, b.count, q, i.node, b.node)
 }
 
 // The node of a row that stays: an outgoing row's new one, any other row's own.
-fn replace(words: &mut [u32], last: Got, q: u32, standin: u32, row: NodeRow) -> Got
-    requires q_lt_state_width { q < state_width }
-    requires fact { row.target ≡ q → ⊥ }
-    ensures { GoesOn (λ made. (row.node < length made.table) × (standin < length made.table)) (λ made. replaced_made q standin made.table row) words.old last words.new result }
+fn replace(
+    words: &mut [u32],
+    count: u32,
+    q: State,
+    standin: u32,
+    row: NodeRow,
+) -> Result<Got, Refused>
+    requires { row.target ≡ q.number → ⊥ }
+    ensures { NodeOn (Both row.node standin) (λ table. replaced_made q.number standin table row) words.old count words.new result }
 {
     let node = row.node.wide();
-    if maker::opens(&words[..], node, q) {
-        return maker::make_cat(words, last, q, node, standin);
+    if maker::opens(&words[..], node, q.number) {
+        return maker::make_cat(words, count, q, node, standin);
     }
-    Got {
-        count: last.count,
-        node,
-    }
+    Ok(Got { count, node })
 }
 
 // The outgoing rows of q replaced at their places; its looping and incoming rows go.
-fn replace_rows(words: &mut [u32], standin: Got, list: Rows, q: u32) -> Staged
-    requires tidy { Tidy list }
-    requires q_lt_state_width { q < state_width }
-    ensures { RowsOn (λ made. (made.node < length made.table) × LowRows (rows_in list) made.table) (λ made. replaced_rows q made.node made.table (those (remains_node q made.table) (rows_in list))) words.old standin words.new result }
+fn replace_rows(words: &mut [u32], x: Got, rows: &[NodeRow], q: State) -> Result<Staged, Refused>
+    requires { length rows.now ≤ list_places }
+    ensures { StageOn (NodeAndRows x.node rows.now) (λ table. replaced_rows q.number x.node table (those (remains_node q.number table) rows.now)) words.old x.count words.new result }
 {
-    let mut places = list.places;
-    let mut kept: usize = 0;
-    let mut got = standin;
-    let mut i: usize = 0;
-    while i < list.count {
-        let row = list.places[i];
-        i += 1;
-        if row.target.wide() != q {
-            got = replace(words, got, q, standin.node, row);
-            places[kept] = rows::row(got.node, row.target);
-            kept += 1;
+    let mut list = Rows::new();
+    let mut count = x.count;
+    for &row in rows {
+        if row.target.wide() != q.number {
+            let got = replace(words, count, q, x.node, row)?;
+            count = got.count;
+            list.push(rows::row(got.node, row.target));
         }
     }
-    Staged {
-        count: got.count,
-        list: Rows {
-            count: kept,
-            places,
-        },
-    }
+    Ok(Staged { count, list })
 }
 
 // State q taken out.
-pub fn take_out(words: &mut [u32], staged: Staged, q: u32) -> Staged
-    requires tidy { Tidy staged.list }
-    requires q_lt_state_width { q < state_width }
-    ensures { StagesOn (λ stage. Workable stage × (hole_at q < length stage.table)) (eliminated_stage q) words.old staged words.new result }
+pub fn take_out(words: &mut [u32], staged: &Staged, q: State) -> Result<Staged, Refused>
+    ensures { StagesOn (NodeAndStage (hole_at q.number)) (eliminated_stage q.number) words.old staged.now words.new result }
 {
-    let last = Got {
-        count: staged.count,
-        node: 0,
-    };
-    let x = stand_in(words, last, staged.list, q);
-    replace_rows(words, x, staged.list, q)
+    let listed = staged.list.rows();
+    let x = stand_in(words, staged.count, listed, q)?;
+    replace_rows(words, x, listed, q)
 }

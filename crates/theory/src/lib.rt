@@ -3,7 +3,7 @@
 
 // A row of the list: a node and a target.
 #[repr(C)]
-#[derive(Clone, Copy)]
+#[derive(Clone, Copy, PartialEq, Eq, Debug)]
 pub struct NodeRow {
     pub node: u16,
     pub target: u8,

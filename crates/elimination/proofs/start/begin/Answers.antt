@@ -1,33 +1,48 @@
 use native.Mathlib.Omega.{arith}
-use Rattle.elimination.proofs.Conversion.{begin-gives, begin-tidy, rules-few, rules-listed}
+use Rattle.std.specs.Prelude.{Ok, Err}
+use Rattle.std.proofs.lemmas.Result.{err_from_is_err_and}
+use Rattle.elimination.proofs.Conversion.{begin-full, begin-gives, begin-has, rules-room}
 use Rattle.elimination.proofs.Starting.{states-same}
 use Rattle.elimination.proofs.start.begin.Goals as goal
 
-pub put_finals-list-requires : goal.put_finals-list-requires
-put_finals-list-requires c =
-    let rule-rows = c.rule_rows in
-    let a = c.args in
-    let v = a.value in
-    let h = c.requires in
-    record { n_le_state_width = (let e = c.wide-n.ensures in let n = h.valid.few_states in omega (arith, states-same v h)); list_value = rules-listed v h rule-rows.result rule-rows.ensures; state_width_len_bound = rules-few v h rule-rows.result rule-rows.ensures }
+pub put_finals-requires : goal.put_finals-requires
+put_finals-requires c =
+    let v = c.args.value.now in
+    let n = c.requires.valid.few_states in
+    record {
+      n_le_state_width = omega (arith, c.wide-n.ensures, states-same v c.requires);
+      state_width_len_bound = rules-room v c.requires c.rule_rows-list.result c.rule_rows-list.ensures;
+    }
 
-pub put_holes-holes-requires : goal.put_holes-holes-requires
-put_holes-holes-requires c =
+pub put_holes-requires : goal.put_holes-requires
+put_holes-requires c = let n = c.requires.valid.few_states in omega (arith, c.wide-n.ensures, states-same c.args.value.now c.requires)
+
+pub returns-in_err-holes : goal.returns-in_err-holes
+returns-in_err-holes c =
     let a = c.args in
-    let v = a.value in
-    let h = c.requires in
-    let e = c.wide-n.ensures in
-    let n = h.valid.few_states in
-    omega (arith, states-same v h)
+    let w = c.wide-n in
+    let rules = c.rule_rows-list in
+    let f = c.put_finals in
+    let p = err_from_is_err_and c.from_residual.result c.from_residual.ensures.1 in
+    rw (p.1, p.2) (begin-full a.value.now c.requires rules.result rules.ensures w.result w.ensures f.new.list f.ensures a.words.now c.in_err-holes.field-0.0 c.in_err-holes.ensures)
+
+pub returns-in_err-count : goal.returns-in_err-count
+returns-in_err-count c =
+    let a = c.args in
+    let w = c.wide-n in
+    let rules = c.rule_rows-list in
+    let f = c.put_finals in
+    let x = c.put_rules in
+    let p = err_from_is_err_and c.from_residual-in_err-count.result c.from_residual-in_err-count.ensures.1 in
+    rw (p.1, p.2)
+    (begin-gives a.value.now c.requires rules.result rules.ensures w.result w.ensures f.new.list f.ensures a.words.now c.put_holes.new.words c.in_ok-holes.holes c.in_ok-holes.ensures x.new.words (Err c.in_err-count.field-0.0) c.in_err-count.ensures)
 
 pub returns : goal.returns
 returns c =
-    let put-rules = c.put_rules-got in
-    let put-holes = c.put_holes-holes in
-    let rule-rows = c.rule_rows in
     let a = c.args in
-    let v = a.value in
-    let h = c.requires in
-    let f = c.put_finals-list in
     let w = c.wide-n in
-    record { tidy = begin-tidy v h rule-rows.result rule-rows.ensures w.result w.ensures f.result f.ensures; gives_stage = begin-gives v h rule-rows.result rule-rows.ensures w.result w.ensures f.result f.ensures a.words.now put-holes.new.words put-holes.result put-holes.ensures put-rules.new.words put-rules.result put-rules.ensures }
+    let rules = c.rule_rows-list in
+    let f = c.put_finals in
+    let x = c.put_rules in
+    begin-has a.value.now c.requires rules.result rules.ensures w.result w.ensures f.new.list f.ensures a.words.now x.new.words c.in_ok-count.count
+    (begin-gives a.value.now c.requires rules.result rules.ensures w.result w.ensures f.new.list f.ensures a.words.now c.put_holes.new.words c.in_ok-holes.holes c.in_ok-holes.ensures x.new.words (Ok c.in_ok-count.count) c.in_ok-count.ensures)

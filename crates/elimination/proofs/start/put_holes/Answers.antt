@@ -1,40 +1,39 @@
-use mathlib.Core.Path.{◌∙◌}
+use Prim.Native.Nat.{ℕ}
+use mathlib.Core.Path.{◌≡◌, subst}
 use native.Mathlib.Omega.{arith}
-use Rattle.elimination.proofs.Starting.{empty-put, holes-end, holes-more, holes-start}
+use Rattle.std.proofs.lemmas.Result.{err_from_is_err_and}
+use Rattle.theory.specs.Stages.{holes_table}
+use Rattle.elimination.specs.Inside.{HasTable}
+use Rattle.elimination.proofs.Starting.{empty-full, empty-put, holes-full, holes-more}
 use Rattle.elimination.proofs.start.put_holes.Goals as goal
 
-pub new_node-got-requires : goal.new_node-got-requires
-new_node-got-requires c = tt
+pub returns-in_err-count : goal.returns-in_err-count
+returns-in_err-count c =
+    let a = c.args in
+    let p = err_from_is_err_and c.from_residual.result c.from_residual.ensures.1 in
+    rw (p.1, p.2) (empty-full a.words.now c.new_node.new.words a.n c.in_err-count.field-0.0 c.in_err-count.ensures)
 
 pub loop-q-init : goal.loop-q-init
-loop-q-init c =
-    let new-node = c.new_node-got in
+loop-q-init c = empty-put c.args.words.now c.new_node.new.words c.in_ok-count.field-0 c.in_ok-count.ensures
+
+pub returns-in_err-count-2 : goal.returns-in_err-count-2
+returns-in_err-count-2 c =
     let a = c.args in
-    holes-start a.n c.requires new-node.new.words new-node.result
-
-pub new_node-got-requires-in-loop-q : goal.new_node-got-requires-in-loop-q
-new_node-got-requires-in-loop-q c = tt
-
-pub overflow_add-q : goal.overflow_add-q
-overflow_add-q c = let p = c.requires in omega arith
-
-pub loop-q-smaller : goal.loop-q-smaller
-loop-q-smaller c = omega arith
+    let l = c.loop-q in
+    let f = c.from_residual-in_err-count-2 in
+    let p = err_from_is_err_and f.result f.ensures.1 in
+    rw (p.1, p.2) (holes-full a.n c.requires a.words.now l.words l.count l.q l.invariant c.loop-q-test.true c.new_node-in-loop-q.new.words c.in_err-count-2.field-0.0 c.in_err-count-2.ensures)
 
 pub loop-q-preserved : goal.loop-q-preserved
 loop-q-preserved c =
-    let new-node2 = c.new_node-got-in-loop-q in
-    let new-node = c.new_node-got in
     let a = c.args in
     let l = c.loop-q in
-    holes-more a.n c.requires new-node.new.words new-node.result l.words l.got l.q l.invariant c.loop-q-test.true new-node2.new.words new-node2.result new-node2.auto.words new-node2.ensures
-
-pub shape_of-words : goal.shape_of-words
-shape_of-words c = c.loop-q.invariant.same ∙ c.new_node-got.auto.words
+    holes-more a.n c.requires a.words.now l.words l.count l.q l.invariant c.loop-q-test.true c.new_node-in-loop-q.new.words c.in_ok-count-2.field-0 c.in_ok-count-2.ensures
 
 pub returns : goal.returns
 returns c =
-    let new-node = c.new_node-got in
-    let a = c.args in
     let l = c.loop-q in
-    holes-end a.n c.requires new-node.new.words new-node.result l.words l.got l.q l.invariant c.loop-q-test.false a.words.now (empty-put a.words.now new-node.new.words new-node.result new-node.ensures)
+    let t = c.loop-q-test.false in
+    let m = l.auto.q-end in
+    let e : l.q ≡ c.args.n = omega arith in
+    subst (λ (n : ℕ). HasTable c.args.words.now (holes_table n) l.words l.count) e l.invariant

@@ -1,9 +1,6 @@
-use Prim.Native.Nat.{◌-◌}
-use Rattle.elimination.proofs.Starting.{HoleLoop}
+use Rattle.theory.specs.Stages.{holes_table}
+use Rattle.elimination.specs.Inside.{HasTable}
 use Rattle.elimination.proofs.start.put_holes.Given as goal
 
 abbrev pub invariant-loop-q : goal.invariant-loop-q
-invariant-loop-q l = HoleLoop l.n l.initial.words l.initial.got l.words l.got l.q
-
-abbrev pub decreases-loop-q : goal.decreases-loop-q
-decreases-loop-q l = l.n - l.q
+invariant-loop-q l = HasTable l.fn.words (holes_table l.q) l.words l.count

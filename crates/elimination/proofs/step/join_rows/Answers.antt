@@ -1,39 +1,39 @@
-use native.Mathlib.Omega.{arith}
-use Rattle.elimination.proofs.Joining.{loop-end, loop-next, loop-start}
+use mathlib.Core.Path.{refl}
+use Rattle.std.proofs.lemmas.Result.{err_from_is_err_and}
+use Rattle.elimination.proofs.Joining.{join-end, join-full, join-next, join-passed, join-start}
 use Rattle.elimination.proofs.step.join_rows.Goals as goal
+use Rattle.elimination.proofs.step.join_rows.Goals.{then-picked+in_ok-got, else-picked}
 
-pub loop-i-init : goal.loop-i-init
-loop-i-init c =
+pub loop-row-init : goal.loop-row-init
+loop-row-init c =
     let a = c.args in
-    loop-start a.q a.looping a.list c.requires a.words.now a.last
+    join-start a.pick a.rows.now a.words.now a.count
 
-pub offset_bounds-list-i : goal.offset_bounds-list-i
-offset_bounds-list-i c = omega (arith, c.requires.few)
-
-pub bounds-list-i : goal.bounds-list-i
-bounds-list-i c = omega (arith, c.requires.few)
-
-pub overflow_add-i : goal.overflow_add-i
-overflow_add-i c = omega (arith, c.requires.few)
-
-pub join_row-got-requires : goal.join_row-got-requires
-join_row-got-requires c = tt
-
-pub loop-i-smaller : goal.loop-i-smaller
-loop-i-smaller c = omega arith
-
-pub loop-i-preserved : goal.loop-i-preserved
-loop-i-preserved c =
-    let join-row = c.join_row-got in
+pub returns-in_err-got : goal.returns-in_err-got
+returns-in_err-got c =
     let a = c.args in
-    let l = c.loop-i in
-    loop-next a.q a.looping a.list c.requires a.words.now a.last l.words l.got l.i l.invariant c.loop-i-test.true join-row.new.words join-row.result join-row.ensures join-row.auto.words
+    let l = c.loop-row in
+    let p = err_from_is_err_and c.from_residual.result c.from_residual.ensures.1 in
+    rw (p.1, p.2)
+    (join-full a.pick a.rows.now a.words.now a.count l.words l.got l.row-index l.invariant c.loop-row-test.true _ refl c.picked.result c.picked.ensures c.if-picked.true c.make_alt.new.words c.in_err-got.field-0.0
+    (rw c.wide.ensures at c.in_err-got.ensures))
 
-pub shape_of-words : goal.shape_of-words
-shape_of-words c = c.loop-i.invariant.same
+pub loop-row-preserved : goal.loop-row-preserved
+loop-row-preserved c =
+    let a = c.args in
+    let l = c.loop-row in
+    elim c.if-picked.branch [
+      | then-picked+in_ok-got w ↦
+          rw (w.words-is, w.got-is)
+          (join-next a.pick a.rows.now a.words.now a.count l.words l.got l.row-index l.invariant c.loop-row-test.true _ refl c.picked.result c.picked.ensures w.if-picked.true w.make_alt.new.words w.in_ok-got.got
+          (rw w.wide.ensures at w.in_ok-got.ensures))
+      | else-picked w ↦
+          rw (w.words-is, w.got-is)
+          (join-passed a.pick a.rows.now a.words.now a.count l.words l.got l.row-index l.invariant c.loop-row-test.true _ refl c.picked.result c.picked.ensures w.if-picked.false)
+    ]
 
 pub returns : goal.returns
 returns c =
     let a = c.args in
-    let l = c.loop-i in
-    loop-end a.q a.looping a.list c.requires a.words.now a.last l.words l.got l.i l.invariant c.loop-i-test.false
+    let l = c.loop-row in
+    join-end a.pick a.rows.now a.words.now a.count l.words l.got l.row-index l.invariant c.loop-row-test.false

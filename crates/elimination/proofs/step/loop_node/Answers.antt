@@ -1,9 +1,14 @@
-use Rattle.elimination.proofs.OneState.{loop-node}
+use Rattle.std.proofs.lemmas.Result.{err_from_is_err_and}
+use Rattle.elimination.proofs.OneState.{loop-full, loop-node}
 use Rattle.elimination.proofs.step.loop_node.Goals as goal
+
+pub returns-in_err-a : goal.returns-in_err-a
+returns-in_err-a c =
+    let a = c.args in
+    let p = err_from_is_err_and c.from_residual.result c.from_residual.ensures.1 in
+    rw (p.1, p.2) (loop-full a.q.number a.q.below_width a.rows.now a.words.now a.count c.join_rows.new.words c.in_err-a.field-0.0 c.in_err-a.ensures)
 
 pub returns : goal.returns
 returns c =
-    let make-iter = c.make_iter in
-    let join-rows = c.join_rows-a in
     let a = c.args in
-    loop-node a.q c.requires.q_lt_state_width a.list a.words.now a.last join-rows.new.words join-rows.result join-rows.ensures make-iter.new.words make-iter.result make-iter.ensures
+    loop-node a.q.number a.q.below_width a.rows.now a.words.now a.count c.join_rows.new.words c.in_ok-a.a c.in_ok-a.ensures c.make_iter.new.words c.make_iter.result c.make_iter.ensures

@@ -7,17 +7,14 @@ use Rattle.elimination.proofs.step.replace.Goals as goal
 
 pub returns-then-opens : goal.returns-then-opens
 returns-then-opens c =
-    let make-cat = c.make_cat in
     let a = c.args in
-    let p = c.requires in
     let w = c.wide-node.ensures in
-    let o = ap (λ (n : ℕ). open_in a.q (node_in a.words.now n)) (sym w) ∙ sym c.opens.ensures in
-    replace-open a.words.now a.last a.q p.q_lt_state_width a.standin a.row p.fact (o ∙ c.if-opens.true) make-cat.new.words make-cat.result (rw w at make-cat.ensures)
+    let o = ap (λ (n : ℕ). open_in a.q.number (node_in a.words.now n)) (sym w) ∙ sym c.if-opens.ensures in
+    replace-open a.words.now a.count a.q.number a.q.below_width a.standin a.row c.requires o c.make_cat.new.words c.make_cat.result (rw w at c.make_cat.ensures)
 
 pub returns : goal.returns
 returns c =
     let a = c.args in
-    let p = c.requires in
     let w = c.wide-node.ensures in
-    let o = ap (λ (n : ℕ). open_in a.q (node_in a.words.now n)) (sym w) ∙ sym c.opens.ensures in
-    rw w (replace-own a.words.now a.last a.q p.q_lt_state_width a.standin a.row p.fact (o ∙ c.if-opens.false))
+    let o = ap (λ (n : ℕ). open_in a.q.number (node_in a.words.now n)) (sym w) ∙ sym c.if-opens.ensures in
+    rw w (replace-own a.words.now a.count a.q.number a.q.below_width a.standin a.row c.requires o)
