@@ -9,7 +9,6 @@ use mathlib.Core.Bool.{true, false}
 use mathlib.Core.List.{List, [], ◌∷◌, ◌++◌, map, map-append, append_assoc, append-nil}
 use lib.ListN.{length, get_or, take, drop, length-map, length-append}
 use lib.Seq.{drop-cons}
-use borrow.Author.Tests.{lt-ltb, le-ltb}
 use Rattle.std.proofs.lemmas.List.{drop_all}
 use Rattle.std.specs.Prelude.{Ok, Err}
 use Rattle.automaton.specs.declared.Refused.{Refused}
@@ -67,16 +66,8 @@ module _ (n : ℕ) (few : n ≤ state_width) (before words : List ℕ) (count q 
 
 -- ---- the shape of a rule's node
 
-pub child-here : (place arity source wide : ℕ) → place < arity → wide ≡ source → wide + 1 ≡ child_of place arity source
-unfolding child_of
-child-here place arity source wide h e = rw (lt-ltb place arity h) (ap (◌+ 1) e ∙ add-one source)
-
-pub child-none : (place arity source : ℕ) → arity ≤ place → 0 ≡ child_of place arity source
-unfolding child_of
-child-none place arity source h = rw (le-ltb place arity h) refl
-
 shape_is : (rule : Rule) → length rule.sources ≤ 3 → row_shape (placed_row rule) (length rule.sources) ≡ rule_shape rule
-unfolding row_shape child_of placed_row rule_shape label_of filled
+unfolding row_shape placed_row rule_shape label_of filled
 shape_is rule h = go rule.sources h
   where
     go : (qs : List ℕ) → length qs ≤ 3 → row_shape (placed_row (record { symbol = rule.symbol; target = rule.target; sources = qs })) (length qs) ≡ rule_shape (record { symbol = rule.symbol; target = rule.target; sources = qs })

@@ -106,7 +106,7 @@ StagesOn Suits step words begun after r = (before : List ℕ) (stage : Stage) �
 -- ---- the start
 
 -- the child at a place of a rule's node: the source's hole, where there is one
-unfoldable pub child_of : ℕ → ℕ → ℕ → ℕ
+abbrev pub child_of : ℕ → ℕ → ℕ → ℕ
 child_of place arity source = cond (ltb place arity) (suc source) 0
 
 -- the shape of a rule's node, by its row in a value and the arity of its symbol

@@ -93,10 +93,10 @@ pub fn new_node(
 pub fn make_alt(words: &mut [u32], count: u32, left: u32, right: u32) -> Result<Got, Refused>
     ensures { NodeOn (Both left right) (λ table. alt_made table left right) words.old count words.new result }
 {
-    if is_empty(&words[..], left) {
+    if is_empty(words, left) {
         return Ok(Got { count, node: right });
     }
-    if is_empty(&words[..], right) {
+    if is_empty(words, right) {
         return Ok(Got { count, node: left });
     }
     new_node(words, count, ALTERNATION, 0, left, right, 0)
@@ -112,7 +112,7 @@ pub fn make_cat(
 ) -> Result<Got, Refused>
     ensures { NodeOn (Both left right) (λ table. cat_made q.number table left right) words.old count words.new result }
 {
-    if is_hole(&words[..], left, q.number) {
+    if is_hole(words, left, q.number) {
         return Ok(Got { count, node: right });
     }
     new_node(words, count, CONCATENATION, q.number, left, right, 0)
@@ -122,7 +122,7 @@ pub fn make_cat(
 pub fn make_iter(words: &mut [u32], count: u32, q: State, child: u32) -> Result<Got, Refused>
     ensures { NodeOn (λ table. child < length table) (λ table. iter_made q.number table child) words.old count words.new result }
 {
-    if is_empty(&words[..], child) {
+    if is_empty(words, child) {
         let node = q.number + 1;
         return Ok(Got { count, node });
     }

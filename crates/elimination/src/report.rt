@@ -25,11 +25,10 @@ fn no_rows() -> [ListRow; LIST_PLACES]
 pub fn nothing() -> Stopped
     ensures { result ≡ record { nodes = 0; rows = 0; list = replicate list_places unused_place } }
 {
-    let list = no_rows();
     Stopped {
         nodes: 0,
         rows: 0,
-        list,
+        list: no_rows(),
     }
 }
 
@@ -37,13 +36,12 @@ pub fn nothing() -> Stopped
 fn list_row(words: &[u32], row: NodeRow) -> ListRow
     ensures { result ≡ reported_row words.now row }
 {
-    let node = row.node;
-    let target = row.target;
-    let waits = maker::waits(words, node.wide());
+    let NodeRow { node, target } = row;
+    let waits = maker::waits(words, node.wide()) as u8;
     ListRow {
         node,
         target,
-        waits: waits as u8,
+        waits,
     }
 }
 

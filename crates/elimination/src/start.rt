@@ -33,10 +33,7 @@ fn put_holes(words: &mut [u32], n: u32) -> Result<u32, Refused>
 fn child(place: u32, arity: u32, source: u8) -> u32
     ensures { result ≡ child_of place arity source }
 {
-    if place < arity {
-        return source.wide() + 1;
-    }
-    0
+    if place < arity { source.wide() + 1 } else { 0 }
 }
 
 // The shape of a rule's node, by the arities of the symbols.
