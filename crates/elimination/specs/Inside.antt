@@ -62,10 +62,6 @@ NodeOn Suits step words count after r = (before : List ℕ) (table : Table) → 
 
 -- ---- the row list
 
--- an unused place of the list
-abbrev pub no_row : NodeRow
-no_row = record { node = 0; target = 0 }
-
 -- rows, after a table
 abbrev pub stage_of : Table → List NodeRow → Stage
 stage_of table rows = record { table = table; rows = rows }

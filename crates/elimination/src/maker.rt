@@ -1,5 +1,6 @@
 // Making nodes on the lent words, by the rules that spare some. A maker goes on from a table of so many nodes, and is refused where there is no
-// room for what it makes.
+// room for what it makes. The words and the number of nodes go side by side: a struct with the words in it as a `&mut` would have to name that
+// reference in every promise.
 ghost use Rattle.std.specs.Prelude.{◌≡◌, ◌&&◌, ◌<◌, eqb, length};
 ghost use Rattle.sets.specs.Members.{size, state_width};
 ghost use Rattle.expressions.specs.Nodes.{shape_of};

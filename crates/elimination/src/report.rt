@@ -50,6 +50,7 @@ pub fn list_rows(words: &[u32], rows: &[NodeRow]) -> [ListRow; LIST_PLACES]
     requires { length rows.now ≤ list_places }
     ensures { result ≡ reported_rows words.now rows.now }
 {
+    // By an index: a proof of `iter_mut().zip(rows)` would rest on names that Rattle may change.
     let mut out = no_rows();
     for (i, &row) in rows.iter().enumerate() {
         out[i] = list_row(words, row);
