@@ -4,7 +4,7 @@ use native.Mathlib.Omega.{arith}
 use mathlib.Core.Path.{◌≡◌, ◌∙◌, ap, ap₂, subst}
 use mathlib.Core.List.{List}
 use lib.ListN.{length}
-use Rattle.std.specs.Prelude.{Result}
+use Rattle.std.specs.Prelude.{Result, Ok, Err}
 use Rattle.automaton.specs.declared.Refused.{Refused}
 use Rattle.sets.specs.Members.{state_width}
 use Rattle.ground.proofs.Lists.{to-all}
@@ -14,7 +14,7 @@ use Rattle.automaton.specs.Answers.{held_by}
 use Rattle.automaton.specs.Handed.{Handed}
 use Rattle.theory.specs.declared.NodeRow.{NodeRow}
 use Rattle.theory.specs.RowLists.{ascending, final_states, list_places}
-use Rattle.theory.specs.Stages.{Made, holes_table, rules_table, start_table, rule_rows, start, eliminated_stages, stage_after, converted}
+use Rattle.theory.specs.Stages.{Made, holes_table, start_table, rule_rows, start, eliminated_stages, stage_after, converted}
 use Rattle.theory.proofs.Nodes.Grows.{grown-longer, rules-grow, stages-grow, join_stage-grows}
 use Rattle.theory.proofs.Nodes.StartTable.{start-mirrors, holes-table}
 use Rattle.theory.proofs.Counting.Bound.{start-room, rule_rows-count}
@@ -22,42 +22,52 @@ use Rattle.theory.proofs.Theorem.{partly-ascending}
 use Rattle.elimination.specs.declared.maker.Got.{Got}
 use Rattle.elimination.specs.declared.step.Pick.TheVariants.{Every}
 use Rattle.elimination.specs.declared.rows.Staged.{Staged}
-use Rattle.elimination.specs.Inside.{NodeAndRows, NoRoom, HasTable, HasStage, GivesTable, GivesNode, GivesStage, NodeOn, TableOn, StagesOn, NodeAndStage, LowRows, stage_of, picked_made}
+use Rattle.elimination.specs.Inside.{NodeAndRows, NoRoom, HasTable, HasStage, GivesNode, GivesStage, NodeOn, StageOn, StagesOn, NodeAndStage, LowRows, stage_of, rules_stage, picked_made}
 use Rattle.elimination.proofs.Room.{less-room}
 use Rattle.elimination.proofs.Joining.{picked-every}
 use Rattle.elimination.proofs.Starting.{states-same, finals-same, with_finals}
 
--- ---- the list of the start
+-- ---- the table and the list of the start
 
-module _ (value : Automaton) (handed : Handed value) where
-  module _ (rules : List NodeRow) (er : rules ≡ rule_rows (suc (held_by value).states) (held_by value).rules) where
-    pub rules-room : length rules + state_width ≤ list_places
-    rules-room = let a = handed.valid.few_rules in omega (arith, ap length er, rule_rows-count (suc (held_by value).states) (held_by value).rules)
+module _ (value : Automaton) (handed : Handed value) (n : ℕ) (en : n ≡ value.states) (before w1 : List ℕ) where
+  held-states : n ≡ (held_by value).states
+  held-states = en ∙ states-same value handed
 
-    module _ (n : ℕ) (en : n ≡ value.states) (list : List NodeRow) (el : list ≡ with_finals rules value.finals.0 n) where
-      list-start : list ≡ (start (held_by value)).rows
-      unfolding start final_states
-      list-start =
-          el ∙ ap (λ (rows : List NodeRow). with_finals rows value.finals.0 n) er
-          ∙ ap₂ (λ (x k : ℕ). with_finals (rule_rows (suc (held_by value).states) (held_by value).rules) x k) (finals-same value handed) (en ∙ states-same value handed)
+  pub begin-full : (reason : Refused) → NoRoom before (holes_table n) reason → NoRoom before (start (held_by value)).table reason
+  unfolding start start_table
+  begin-full reason none =
+      less-room (rules-grow (holes_table (held_by value).states) (held_by value).rules) (subst (λ (m : ℕ). NoRoom before (holes_table m) reason) held-states none)
 
-      pub begin-gives : (before w1 : List ℕ) (holes : ℕ) → HasTable before (holes_table n) w1 holes → (w2 : List ℕ) (r : Result ℕ Refused)
-          → TableOn (λ table. (held_by value).states < length table) (λ table. rules_table table (held_by value).rules) w1 holes w2 r
-          → GivesTable before (start (held_by value)).table w2 r
-      unfolding start start_table
-      begin-gives before w1 holes g w2 r x =
-          let held = held_by value in
-          let e : n ≡ held.states = en ∙ states-same value handed in
-          let c = (holes-table held.states handed.valid.few_states).count in
-          x before (holes_table held.states) (subst (λ (m : ℕ). HasTable before (holes_table m) w1 holes) e g) (omega arith)
+  module _ (holes : ℕ) (g : HasTable before (holes_table n) w1 holes) (w2 : List ℕ) where
+    module _ (r : Result Staged Refused) (x : StageOn (λ table. (held_by value).states < length table) (rules_stage (held_by value).rules) w1 holes w2 r) where
+      put : GivesStage before (rules_stage (held_by value).rules (holes_table (held_by value).states)) w2 r
+      put =
+          let c = (holes-table (held_by value).states handed.valid.few_states).count in
+          x before (holes_table (held_by value).states) (subst (λ (m : ℕ). HasTable before (holes_table m) w1 holes) held-states g) (omega arith)
 
-      pub begin-has : (before after : List ℕ) (count : ℕ) → HasTable before (start (held_by value)).table after count → HasStage before (start (held_by value)) after (record { count = count; list = list })
-      begin-has before after count h = record { has = h; listed = list-start }
+    pub rules-full : (reason : Refused) → StageOn (λ table. (held_by value).states < length table) (rules_stage (held_by value).rules) w1 holes w2 (Err reason)
+        → NoRoom before (start (held_by value)).table reason
+    unfolding start start_table
+    rules-full reason x = put (Err reason) x
 
-      pub begin-full : (before : List ℕ) (reason : Refused) → NoRoom before (holes_table n) reason → NoRoom before (start (held_by value)).table reason
-      unfolding start start_table
-      begin-full before reason none =
-          less-room (rules-grow (holes_table (held_by value).states) (held_by value).rules) (subst (λ (m : ℕ). NoRoom before (holes_table m) reason) (en ∙ states-same value handed) none)
+    module _ (staged : Staged) (x : StageOn (λ table. (held_by value).states < length table) (rules_stage (held_by value).rules) w1 holes w2 (Ok staged)) where
+      -- the rules' rows are numbered on from the holes
+      rules-listed : staged.list ≡ rule_rows (suc (held_by value).states) (held_by value).rules
+      rules-listed =
+          (put (Ok staged) x).listed ∙ ap (λ (m : ℕ). rule_rows m (held_by value).rules) (holes-table (held_by value).states handed.valid.few_states).count
+
+      pub rules-room : length staged.list + state_width ≤ list_places
+      rules-room = let a = handed.valid.few_rules in omega (arith, ap length rules-listed, rule_rows-count (suc (held_by value).states) (held_by value).rules)
+
+      pub begin-gives : (list : List NodeRow) → list ≡ with_finals staged.list value.finals.0 n → HasStage before (start (held_by value)) w2 (record { count = staged.count; list = list })
+      unfolding start start_table final_states
+      begin-gives list el =
+          record {
+            has = (put (Ok staged) x).has;
+            listed =
+                el ∙ ap (λ (rows : List NodeRow). with_finals rows value.finals.0 n) rules-listed
+                ∙ ap₂ (λ (a k : ℕ). with_finals (rule_rows (suc (held_by value).states) (held_by value).rules) a k) (finals-same value handed) held-states;
+          }
 
 -- ---- the states
 

@@ -23,7 +23,7 @@ use Rattle.theory.proofs.Nodes.Grows.{Grown, grown-none, grown-then, grown-longe
 use Rattle.elimination.specs.declared.maker.Got.{Got}
 use Rattle.elimination.specs.declared.step.Pick.{Pick}
 use Rattle.elimination.specs.declared.step.Pick.TheVariants.{Looping, Incoming, Every}
-use Rattle.elimination.specs.Inside.{Both, NodeAndRows, NoRoom, HasTable, HasNode, NodeOn, no_row, stage_of, open_in, picked_by, picks, picked_made}
+use Rattle.elimination.specs.Inside.{Both, NodeAndRows, NoRoom, HasTable, HasNode, NodeOn, stage_of, open_in, picked_by, picks, picked_made}
 use Rattle.elimination.proofs.Room.{less-room}
 use Rattle.elimination.proofs.Makers.{has_same, has-node, alt-low}
 
@@ -58,6 +58,10 @@ unfolding join_stage
 picked-every stage = ap (λ (rows : List NodeRow). join_made stage.table (nodes rows)) (picks-every stage.table stage.rows)
 
 -- ---- the rows one after the other
+
+-- what stands for a row past the last
+abbrev pub no_row : NodeRow
+no_row = record { node = 0; target = 0 }
 
 -- rows from one on
 pub drop-row : (rows : List NodeRow) (i : ℕ) (row : NodeRow) → i < length rows → row ≡ get_or rows i no_row → drop i rows ≡ row ∷ drop (i + 1) rows

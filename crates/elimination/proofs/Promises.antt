@@ -37,8 +37,9 @@ use Rattle.elimination.specs.declared.ListRow.{ListRow}
 use Rattle.elimination.specs.declared.Partly.{Partly}
 use Rattle.elimination.specs.declared.Wholly.{Wholly}
 use Rattle.elimination.specs.Answers.{whole_nodes, written_to, unused_place, list_row, list_of_rows, refused_partly, partly_done, row_of_place, stage_answered, PartlyAnswered, refused_whole, wholly_done, made_answered, WhollyAnswered}
-use Rattle.elimination.specs.Inside.{Ready, NoRoom, HasNode, no_row, LowRows, HasStage, reported_row, reported_rows, PartlyOf, WhollyOf}
+use Rattle.elimination.specs.Inside.{Ready, NoRoom, HasNode, LowRows, HasStage, reported_row, reported_rows, PartlyOf, WhollyOf}
 use Rattle.elimination.proofs.Room.{written-node}
+use Rattle.elimination.proofs.Joining.{no_row}
 use Rattle.elimination.proofs.Conversion.{stage-low}
 
 -- ---- the list that is returned

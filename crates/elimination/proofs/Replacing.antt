@@ -22,10 +22,10 @@ use Rattle.theory.specs.Stages.{Stage, Made, already, cat_made, outgoing_node, r
 use Rattle.theory.proofs.Nodes.Grows.{Grown, grown-none, grown-then, grown-longer, replaced-grows, rows_grow}
 use Rattle.theory.proofs.Nodes.Turns.{those-take, those-skip, remains-other, outgoing-open, replaced-outgoing, replaced-kept}
 use Rattle.elimination.specs.declared.maker.Got.{Got}
-use Rattle.elimination.specs.Inside.{Both, NodeAndRows, NoRoom, HasTable, HasNode, HasStage, GivesNode, NodeOn, no_row, open_in}
+use Rattle.elimination.specs.Inside.{Both, NodeAndRows, NoRoom, HasTable, HasNode, HasStage, GivesNode, NodeOn, open_in}
 use Rattle.elimination.proofs.Room.{less-room}
 use Rattle.elimination.proofs.Makers.{has_same, has-node, cat-low}
-use Rattle.elimination.proofs.Joining.{drop-row}
+use Rattle.elimination.proofs.Joining.{no_row, drop-row}
 
 -- ---- the node of a row that stays
 

@@ -9,7 +9,6 @@ use mathlib.Core.Bool.{true, false}
 use mathlib.Core.List.{List, [], ◌∷◌, ◌++◌, map, map-append, append_assoc, append-nil}
 use lib.ListN.{length, get_or, take, drop, length-map, length-append}
 use lib.Seq.{drop-cons}
-use borrow.Author.Tests.{lt-ltb, le-ltb}
 use Rattle.std.proofs.lemmas.List.{drop_all}
 use Rattle.std.specs.Prelude.{Ok, Err}
 use Rattle.automaton.specs.declared.Refused.{Refused}
@@ -30,10 +29,11 @@ use Rattle.theory.specs.declared.NodeRow.{NodeRow}
 use Rattle.theory.specs.RowLists.{ascending, list_places, final_target}
 use Rattle.theory.specs.Stages.{hole_at, holes_table, rule_shape, rules_table, rule_rows, final_node_row, added, with_node}
 use Rattle.theory.proofs.Nodes.Grows.{Grown, grown-none, grown-then, grown-longer, with-grows, rules-grow}
+use Rattle.theory.proofs.Nodes.StartTable.{with-length}
 use Rattle.theory.proofs.Nodes.Turns.{holes-first, holes-next, those-none, those-take, those-skip}
 use Rattle.theory.proofs.Nodes.Fitting.{rule_fits}
 use Rattle.elimination.specs.declared.maker.Got.{Got}
-use Rattle.elimination.specs.Inside.{NoRoom, HasTable, NodeOn, TableOn, child_of, row_shape}
+use Rattle.elimination.specs.Inside.{NoRoom, HasTable, NodeOn, StageOn, child_of, row_shape, rules_stage}
 use Rattle.elimination.proofs.Makers.{has_none}
 use Rattle.elimination.proofs.Room.{less-room}
 
@@ -66,16 +66,8 @@ module _ (n : ℕ) (few : n ≤ state_width) (before words : List ℕ) (count q 
 
 -- ---- the shape of a rule's node
 
-pub child-here : (place arity source wide : ℕ) → place < arity → wide ≡ source → wide + 1 ≡ child_of place arity source
-unfolding child_of
-child-here place arity source wide h e = rw (lt-ltb place arity h) (ap (◌+ 1) e ∙ add-one source)
-
-pub child-none : (place arity source : ℕ) → arity ≤ place → 0 ≡ child_of place arity source
-unfolding child_of
-child-none place arity source h = rw (le-ltb place arity h) refl
-
 shape_is : (rule : Rule) → length rule.sources ≤ 3 → row_shape (placed_row rule) (length rule.sources) ≡ rule_shape rule
-unfolding row_shape child_of placed_row rule_shape label_of filled
+unfolding row_shape placed_row rule_shape label_of filled
 shape_is rule h = go rule.sources h
   where
     go : (qs : List ℕ) → length qs ≤ 3 → row_shape (placed_row (record { symbol = rule.symbol; target = rule.target; sources = qs })) (length qs) ≡ rule_shape (record { symbol = rule.symbol; target = rule.target; sources = qs })
@@ -186,120 +178,98 @@ module _ (value : Automaton) (handed : Handed value) where
     unfolding rule
     from-rule = drop-cons (held_by value).rules i no_rule rule-in ∙ ap (λ (m : ℕ). get_or (held_by value).rules i no_rule ∷ drop m (held_by value).rules) (sym (add-one i))
 
--- ---- the nodes of the rules
+-- ---- the nodes and the rows of the rules
 
 abbrev RuleSuits : Automaton → Table → Type 0
 RuleSuits value table = (held_by value).states < length table
 
--- the table so far: with the rules from here on it comes to what is asked
-pub record RulesSoFar (value : Automaton) (before : List ℕ) (table : Table) (rest : List Rule) (words : List ℕ) (count : ℕ) : Type 0 where
+-- the table and the list so far: with the rules from here on they come to what is asked
+pub record RulesSoFar (value : Automaton) (before : List ℕ) (table : Table) (rest : List Rule) (words : List ℕ) (count : ℕ) (list : List NodeRow) : Type 0 where
   pub made : Table
   pub grew : Grown table made
   pub has : HasTable before made words count
-  pub still : rules_table made rest ≡ rules_table table (held_by value).rules
+  pub still_table : rules_table made rest ≡ rules_table table (held_by value).rules
+  pub still_rows : list ++ rule_rows (length made) rest ≡ rule_rows (length table) (held_by value).rules
 
-abbrev pub RuleLoop : Automaton → List ℕ → ℕ → List ℕ → ℕ → ℕ → Type 0
-RuleLoop value first begun words count i =
-    (before : List ℕ) (table : Table) → HasTable before table first begun → RuleSuits value table → RulesSoFar value before table (drop i (held_by value).rules) words count
+pub record RuleLoop (value : Automaton) (first : List ℕ) (begun : ℕ) (words : List ℕ) (count : ℕ) (list : List NodeRow) (i : ℕ) : Type 0 where
+  pub far : length list ≡ i
+  pub goes : (before : List ℕ) (table : Table) → HasTable before table first begun → RuleSuits value table → RulesSoFar value before table (drop i (held_by value).rules) words count list
 
 module _ (value : Automaton) (handed : Handed value) (items : List Row) (read : items ≡ map placed_row (held_by value).rules) (first : List ℕ) (begun : ℕ) where
-  pub rules-start : RuleLoop value first begun first begun 0
-  rules-start before table g s = record { made = table; grew = grown-none table; has = g; still = refl }
+  pub rules-start : RuleLoop value first begun first begun [] 0
+  rules-start = record { far = refl; goes = λ before table g s. record { made = table; grew = grown-none table; has = g; still_table = refl; still_rows = refl } }
 
-  module _ (words : List ℕ) (count i : ℕ) (l : RuleLoop value first begun words count i) where
-    pub rules-end : length items ≤ i → TableOn (RuleSuits value) (λ table. rules_table table (held_by value).rules) first begun words (Ok count)
-    unfolding rules_table
+  module _ (words : List ℕ) (count : ℕ) (list : List NodeRow) (i : ℕ) (l : RuleLoop value first begun words count list i) where
+    pub rules-end : length items ≤ i → StageOn (RuleSuits value) (rules_stage (held_by value).rules) first begun words (Ok (record { count = count; list = list }))
+    unfolding rules_table rule_rows
     rules-end h before table g s =
-        let x = l before table g s in
-        subst (λ (t : Table). HasTable before t words count)
-        (ap (rules_table x.made) (sym (drop_all i (held_by value).rules (omega (arith, ap length read, length-map (held_by value).rules placed_row)))) ∙ x.still) x.has
-
-    module _ (h : i < length items) (shape : Shape) (es : shape ≡ row_shape (get_or items i past_row) (get_or value.arities (get_or items i past_row).symbol 0)) (after : List ℕ) where
-      one : Rule
-      one = rule value handed items read i h
-
-      shape-rule : shape ≡ rule_shape one
-      unfolding rule row one
-      shape-rule = es ∙ ap₂ row_shape (row_is value handed items read i h) (arity-is value handed items read i h) ∙ shape_is one (sources-few value handed items read i h)
-
-      module _ (before : List ℕ) (table : Table) (g : HasTable before table first begun) (s : RuleSuits value table) where
-        sofar : RulesSoFar value before table (one ∷ drop (i + 1) (held_by value).rules) words count
-        unfolding one
-        sofar = subst (λ (rest : List Rule). RulesSoFar value before table rest words count) (from-rule value handed items read i h) (l before table g s)
-
-        fits : Fits (length sofar.made) shape
-        unfolding one
-        fits = let longer = grown-longer sofar.grew in subst (Fits (length sofar.made)) (sym shape-rule) (rule-fit value handed items read i h (length sofar.made) (omega arith))
-
-        still : rules_table (with_node sofar.made shape) (drop (i + 1) (held_by value).rules) ≡ rules_table table (held_by value).rules
-        unfolding rules_table
-        still = ap (λ (new : Shape). rules_table (with_node sofar.made new) (drop (i + 1) (held_by value).rules)) shape-rule ∙ sofar.still
-
-      pub rules-next : (got : Got) → NodeOn (λ table. Fits (length table) shape) (λ table. added table shape) words count after (Ok got) → RuleLoop value first begun after got.count (i + 1)
-      rules-next got x before table g s =
-          let y = sofar before table g s in
-          record {
-            made = with_node y.made shape;
-            grew = grown-then y.grew (with-grows y.made shape);
-            has = (x before y.made y.has (fits before table g s)).has;
-            still = still before table g s;
-          }
-
-      pub rules-full : (reason : Refused) → NodeOn (λ table. Fits (length table) shape) (λ table. added table shape) words count after (Err reason)
-          → TableOn (RuleSuits value) (λ table. rules_table table (held_by value).rules) first begun after (Err reason)
-      rules-full reason x before table g s =
-          let y = sofar before table g s in
-          less-room (subst (Grown (with_node y.made shape)) (still before table g s) (rules-grow (with_node y.made shape) (drop (i + 1) (held_by value).rules)))
-          (x before y.made y.has (fits before table g s))
-
--- ---- the rows of the rules
-
--- the rows so far: with those of the rules from here on they come to what is asked
-pub record RuleRowLoop (value : Automaton) (list : List NodeRow) (node i : ℕ) : Type 0 where
-  pub numbered : node ≡ (held_by value).states + i
-  pub far : length list ≡ i
-  pub still : list ++ rule_rows (suc node) (drop i (held_by value).rules) ≡ rule_rows (suc (held_by value).states) (held_by value).rules
-
-module _ (value : Automaton) (handed : Handed value) where
-  pub rows_start : (node : ℕ) → node ≡ value.states → RuleRowLoop value [] node 0
-  rows_start node e =
-      let n : node ≡ (held_by value).states = e ∙ states-same value handed in
-      record { numbered = omega arith; far = refl; still = ap (λ (m : ℕ). rule_rows (suc m) (held_by value).rules) n }
-
-  module _ (items : List Row) (read : items ≡ map placed_row (held_by value).rules) (list : List NodeRow) (node i : ℕ) (l : RuleRowLoop value list node i) where
-    pub rows_end : length items ≤ i → list ≡ rule_rows (suc (held_by value).states) (held_by value).rules
-    unfolding rule_rows
-    rows_end h =
-        sym (append-nil list)
-        ∙ ap (λ (rest : List Rule). list ++ rule_rows (suc node) rest) (sym (drop_all i (held_by value).rules (omega (arith, ap length read, length-map (held_by value).rules placed_row))))
-        ∙ l.still
+        let x = subst (λ (rest : List Rule). RulesSoFar value before table rest words count list) (drop_all i (held_by value).rules (omega (arith, ap length read, length-map (held_by value).rules placed_row))) (l.goes before table g s) in
+        record { has = subst (λ (t : Table). HasTable before t words count) x.still_table x.has; listed = sym (append-nil list) ∙ x.still_rows }
 
     module _ (h : i < length items) where
-      pub rows-low : node < 65535
-      rows-low = let a = l.numbered in let b = rule-in value handed items read i h in let f = handed.valid.few_rules in let c = handed.valid.few_states in omega arith
+      pub rules-place : length list < list_places
+      rules-place = let a = l.far in let b = rule-in value handed items read i h in let f = handed.valid.few_rules in omega arith
 
-      pub rows-room : length list < list_places
-      rows-room = let a = l.far in let b = rule-in value handed items read i h in let f = handed.valid.few_rules in omega arith
+      module _ (shape : Shape) (es : shape ≡ row_shape (get_or items i past_row) (get_or value.arities (get_or items i past_row).symbol 0)) (after : List ℕ) where
+        one : Rule
+        one = rule value handed items read i h
 
-      pub rows_next : (new : NodeRow) → new ≡ record { node = (node + 1) % 65536; target = (get_or items i past_row).target } → RuleRowLoop value (list ++ (new ∷ [])) (node + 1) (i + 1)
-      unfolding rule row rule_rows
-      rows_next new e =
-          let one = rule value handed items read i h in
-          let rest = drop (i + 1) (held_by value).rules in
-          let low = rows-low in
-          let a = l.numbered in
-          let b = l.far in
-          let is : new ≡ record { node = suc node; target = one.target } =
-          e ∙ ap₂ (λ (m t : ℕ). record { node = m; target = t }) (mod-eq_of_lt (omega arith) ∙ add-one node) (target_is value handed items read i h) in
-          record {
-            numbered = omega arith;
-            far = omega (arith, length-append list (new ∷ []));
-            still =
-                append_assoc list (new ∷ []) (rule_rows (suc (node + 1)) rest)
-                ∙ ap₂ (λ (row : NodeRow) (m : ℕ). list ++ (row ∷ rule_rows (suc m) rest)) is (add-one node)
-                ∙ ap (λ (rules : List Rule). list ++ rule_rows (suc node) rules) (sym (from-rule value handed items read i h))
-                ∙ l.still;
-          }
+        shape-rule : shape ≡ rule_shape one
+        unfolding rule row one
+        shape-rule = es ∙ ap₂ row_shape (row_is value handed items read i h) (arity-is value handed items read i h) ∙ shape_is one (sources-few value handed items read i h)
+
+        module _ (before : List ℕ) (table : Table) (g : HasTable before table first begun) (s : RuleSuits value table) where
+          sofar : RulesSoFar value before table (one ∷ drop (i + 1) (held_by value).rules) words count list
+          unfolding one
+          sofar = subst (λ (rest : List Rule). RulesSoFar value before table rest words count list) (from-rule value handed items read i h) (l.goes before table g s)
+
+          fits : Fits (length sofar.made) shape
+          unfolding one
+          fits = let longer = grown-longer sofar.grew in subst (Fits (length sofar.made)) (sym shape-rule) (rule-fit value handed items read i h (length sofar.made) (omega arith))
+
+          still_table : rules_table (with_node sofar.made shape) (drop (i + 1) (held_by value).rules) ≡ rules_table table (held_by value).rules
+          unfolding rules_table
+          still_table = ap (λ (new : Shape). rules_table (with_node sofar.made new) (drop (i + 1) (held_by value).rules)) shape-rule ∙ sofar.still_table
+
+          -- the row of this rule, and those of the rules after it
+          still_rows : list ++ (record { node = length sofar.made; target = one.target } ∷ rule_rows (length (with_node sofar.made shape)) (drop (i + 1) (held_by value).rules)) ≡ rule_rows (length table) (held_by value).rules
+          unfolding rule_rows
+          still_rows =
+              ap (λ (m : ℕ). list ++ (record { node = length sofar.made; target = one.target } ∷ rule_rows m (drop (i + 1) (held_by value).rules))) (with-length sofar.made shape)
+              ∙ sofar.still_rows
+
+        pub rules-next : (got : Got) → NodeOn (λ table. Fits (length table) shape) (λ table. added table shape) words count after (Ok got)
+            → (new : NodeRow) → new ≡ record { node = got.node % 65536; target = (get_or items i past_row).target } → RuleLoop value first begun after got.count (list ++ (new ∷ [])) (i + 1)
+        unfolding row one
+        rules-next got x new en =
+            record {
+              far = (let a = l.far in omega (arith, length-append list (new ∷ [])));
+              goes = λ before table g s.
+                  let y = sofar before table g s in
+                  let made = with_node y.made shape in
+                  let z = x before y.made y.has (fits before table g s) in
+                  let few = z.has.room.few in
+                  let longer = with-length y.made shape in
+                  let is : new ≡ record { node = length y.made; target = one.target } =
+                  en ∙ ap₂ (λ (m t : ℕ). record { node = m; target = t }) (mod-eq_of_lt (omega (arith, z.node)) ∙ z.node) (target_is value handed items read i h) in
+                  record {
+                    made = made;
+                    grew = grown-then y.grew (with-grows y.made shape);
+                    has = z.has;
+                    still_table = still_table before table g s;
+                    still_rows =
+                        append_assoc list (new ∷ []) (rule_rows (length made) (drop (i + 1) (held_by value).rules))
+                        ∙ ap (λ (row : NodeRow). list ++ (row ∷ rule_rows (length made) (drop (i + 1) (held_by value).rules))) is
+                        ∙ still_rows before table g s;
+                  };
+            }
+
+        pub rules-full : (reason : Refused) → NodeOn (λ table. Fits (length table) shape) (λ table. added table shape) words count after (Err reason)
+            → StageOn (RuleSuits value) (rules_stage (held_by value).rules) first begun after (Err reason)
+        rules-full reason x before table g s =
+            let y = sofar before table g s in
+            less-room (subst (Grown (with_node y.made shape)) (still_table before table g s) (rules-grow (with_node y.made shape) (drop (i + 1) (held_by value).rules)))
+            (x before y.made y.has (fits before table g s))
 
 -- ---- the rows of the final states
 

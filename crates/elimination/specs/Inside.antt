@@ -5,7 +5,7 @@ use Rattle.std.specs.Prelude.{ℕ, suc, ◌*◌, ◌≤◌, ◌<◌, ◌≡◌, 
 use Rattle.sets.specs.Members.{has, size, state_width, of_word}
 use Rattle.ground.specs.Lists.{All, filled, those}
 use Rattle.automaton.specs.declared.Row.{Row}
-use Rattle.automaton.specs.Held.{Held}
+use Rattle.automaton.specs.Held.{Rule, Held}
 use Rattle.automaton.specs.Checks.{holds, verdict}
 use Rattle.automaton.specs.declared.Refused.{Refused}
 use Rattle.automaton.specs.Refusals.{number_of}
@@ -16,7 +16,7 @@ use Rattle.expressions.specs.Words.{node_width, node_in}
 use Rattle.expressions.specs.Soundness.{most_nodes}
 use Rattle.theory.specs.declared.NodeRow.{NodeRow}
 use Rattle.theory.specs.RowLists.{list_places}
-use Rattle.theory.specs.Stages.{Stage, Made, iter_made, join_made, nodes, looping_node}
+use Rattle.theory.specs.Stages.{Stage, Made, rules_table, rule_rows, iter_made, join_made, nodes, looping_node}
 use Rattle.elimination.specs.declared.ListRow.{ListRow}
 use Rattle.elimination.specs.declared.Partly.{Partly}
 use Rattle.elimination.specs.declared.Wholly.{Wholly}
@@ -57,17 +57,10 @@ abbrev pub GivesNode : List ℕ → Made → List ℕ → Result Got Refused →
 GivesNode before made after r = MatchResult r (HasNode before made after) (NoRoom before made.table)
 
 -- what a maker promises that goes on from a table which suits it, from whatever words that began: it makes one step more
-abbrev pub TableOn : (Table → Type 0) → (Table → Table) → List ℕ → ℕ → List ℕ → Result ℕ Refused → Type 0
-TableOn Suits step words count after r = (before : List ℕ) (table : Table) → HasTable before table words count → Suits table → GivesTable before (step table) after r
-
 abbrev pub NodeOn : (Table → Type 0) → (Table → Made) → List ℕ → ℕ → List ℕ → Result Got Refused → Type 0
 NodeOn Suits step words count after r = (before : List ℕ) (table : Table) → HasTable before table words count → Suits table → GivesNode before (step table) after r
 
 -- ---- the row list
-
--- an unused place of the list
-abbrev pub no_row : NodeRow
-no_row = record { node = 0; target = 0 }
 
 -- rows, after a table
 abbrev pub stage_of : Table → List NodeRow → Stage
@@ -109,13 +102,17 @@ StagesOn Suits step words begun after r = (before : List ℕ) (stage : Stage) �
 -- ---- the start
 
 -- the child at a place of a rule's node: the source's hole, where there is one
-unfoldable pub child_of : ℕ → ℕ → ℕ → ℕ
+abbrev pub child_of : ℕ → ℕ → ℕ → ℕ
 child_of place arity source = cond (ltb place arity) (suc source) 0
 
 -- the shape of a rule's node, by its row in a value and the arity of its symbol
 unfoldable pub row_shape : Row → ℕ → Shape
 row_shape row arity =
     symbol_shape (label_of row.symbol arity) (child_of 0 arity (get_or row.sources 0 0)) (child_of 1 arity (get_or row.sources 1 0)) (child_of 2 arity (get_or row.sources 2 0))
+
+-- the nodes of these rules put after a table, and the rows of the rules
+abbrev pub rules_stage : List Rule → Table → Stage
+rules_stage rules table = record { table = rules_table table rules; rows = rule_rows (length table) rules }
 
 -- ---- one state
 

@@ -16,11 +16,10 @@ use automaton::{Automaton, Refused};
 use ground::Wide;
 
 // The first k states taken out, the lowest first.
-fn take_first(words: &mut [u32], begun: Staged, k: u32) -> Result<Staged, Refused>
+fn take_first(words: &mut [u32], mut staged: Staged, k: u32) -> Result<Staged, Refused>
     requires { k ≤ state_width }
-    ensures { StagesOn (NodeAndStage k) (eliminated_stages (ascending k)) words.old begun words.new result }
+    ensures { StagesOn (NodeAndStage k) (eliminated_stages (ascending k)) words.old staged words.new result }
 {
-    let mut staged = begun;
     for number in 0..k {
         staged = step::take_out(words, &staged, State { number })?;
     }

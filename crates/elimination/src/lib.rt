@@ -98,7 +98,8 @@ impl From<Result<Converted, Refused>> for Wholly {
     }
 }
 
-// The automaton after its first k states are taken out.
+// The automaton after its first k states are taken out. That a file holds the value stays a clause here and in the modules: `Handed` goes by
+// recursion, and a ghost field takes no such fact as it is.
 fn partly_of(nodes: &mut [u32], value: Automaton, k: u32) -> Result<Stopped, Refused>
     requires { Handed value }
     ensures { PartlyOf (held_by value) k nodes.old nodes.new (partly_answer result) }

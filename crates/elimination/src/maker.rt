@@ -1,5 +1,6 @@
 // Making nodes on the lent words, by the rules that spare some. A maker goes on from a table of so many nodes, and is refused where there is no
-// room for what it makes.
+// room for what it makes. The words and the number of nodes go side by side: a struct with the words in it as a `&mut` would have to name that
+// reference in every promise.
 ghost use Rattle.std.specs.Prelude.{◌≡◌, ◌&&◌, ◌<◌, eqb, length};
 ghost use Rattle.sets.specs.Members.{size, state_width};
 ghost use Rattle.expressions.specs.Nodes.{shape_of};
@@ -93,10 +94,10 @@ pub fn new_node(
 pub fn make_alt(words: &mut [u32], count: u32, left: u32, right: u32) -> Result<Got, Refused>
     ensures { NodeOn (Both left right) (λ table. alt_made table left right) words.old count words.new result }
 {
-    if is_empty(&words[..], left) {
+    if is_empty(words, left) {
         return Ok(Got { count, node: right });
     }
-    if is_empty(&words[..], right) {
+    if is_empty(words, right) {
         return Ok(Got { count, node: left });
     }
     new_node(words, count, ALTERNATION, 0, left, right, 0)
@@ -112,7 +113,7 @@ pub fn make_cat(
 ) -> Result<Got, Refused>
     ensures { NodeOn (Both left right) (λ table. cat_made q.number table left right) words.old count words.new result }
 {
-    if is_hole(&words[..], left, q.number) {
+    if is_hole(words, left, q.number) {
         return Ok(Got { count, node: right });
     }
     new_node(words, count, CONCATENATION, q.number, left, right, 0)
@@ -122,7 +123,7 @@ pub fn make_cat(
 pub fn make_iter(words: &mut [u32], count: u32, q: State, child: u32) -> Result<Got, Refused>
     ensures { NodeOn (λ table. child < length table) (λ table. iter_made q.number table child) words.old count words.new result }
 {
-    if is_empty(&words[..], child) {
+    if is_empty(words, child) {
         let node = q.number + 1;
         return Ok(Got { count, node });
     }

@@ -25,11 +25,10 @@ fn no_rows() -> [ListRow; LIST_PLACES]
 pub fn nothing() -> Stopped
     ensures { result ≡ record { nodes = 0; rows = 0; list = replicate list_places unused_place } }
 {
-    let list = no_rows();
     Stopped {
         nodes: 0,
         rows: 0,
-        list,
+        list: no_rows(),
     }
 }
 
@@ -37,13 +36,12 @@ pub fn nothing() -> Stopped
 fn list_row(words: &[u32], row: NodeRow) -> ListRow
     ensures { result ≡ reported_row words.now row }
 {
-    let node = row.node;
-    let target = row.target;
-    let waits = maker::waits(words, node.wide());
+    let NodeRow { node, target } = row;
+    let waits = maker::waits(words, node.wide()) as u8;
     ListRow {
         node,
         target,
-        waits: waits as u8,
+        waits,
     }
 }
 
@@ -52,6 +50,7 @@ pub fn list_rows(words: &[u32], rows: &[NodeRow]) -> [ListRow; LIST_PLACES]
     requires { length rows.now ≤ list_places }
     ensures { result ≡ reported_rows words.now rows.now }
 {
+    // By an index: a proof of `iter_mut().zip(rows)` would rest on names that Rattle may change.
     let mut out = no_rows();
     for (i, &row) in rows.iter().enumerate() {
         out[i] = list_row(words, row);

@@ -63,7 +63,7 @@ pub struct Staged {
     pub list: Rows,
 }
 
-// A row of the list. The nodes of a table have numbers that 16 bits hold.
+// A row of the list. The nodes of a table have numbers that 16 bits hold; a number is cut to them, since here nothing says whose it is.
 pub fn row(node: u32, target: u8) -> NodeRow
     ensures { result ≡ record { node = node % 65536; target = target } }
 {

@@ -6,8 +6,8 @@ ghost use Rattle.automaton.specs.Handed.{Handed};
 ghost use Rattle.automaton.specs.Held.{most_symbols, most_arity};
 ghost use Rattle.ground.specs.Lists.{those};
 ghost use Rattle.theory.specs.RowLists.{ascending, list_places};
-ghost use Rattle.theory.specs.Stages.{holes_table, rules_table, rule_rows, final_node_row, start};
-ghost use Rattle.elimination.specs.Inside.{GivesTable, TableOn, GivesStage, child_of, row_shape};
+ghost use Rattle.theory.specs.Stages.{holes_table, final_node_row, start};
+ghost use Rattle.elimination.specs.Inside.{GivesTable, GivesStage, StageOn, child_of, row_shape, rules_stage};
 
 use crate::maker::{EMPTY, HOLE, SYMBOL};
 use crate::rows::{Rows, Staged};
@@ -33,10 +33,7 @@ fn put_holes(words: &mut [u32], n: u32) -> Result<u32, Refused>
 fn child(place: u32, arity: u32, source: u8) -> u32
     ensures { result ≡ child_of place arity source }
 {
-    if place < arity {
-        return source.wide() + 1;
-    }
-    0
+    if place < arity { source.wide() + 1 } else { 0 }
 }
 
 // The shape of a rule's node, by the arities of the symbols.
@@ -68,12 +65,13 @@ fn rules(value: &Automaton) -> &[Row]
     &value.rows[..ground::index(value.count)]
 }
 
-// The nodes of the rules, and how many nodes there are with them.
-fn put_rules(words: &mut [u32], begun: u32, value: &Automaton) -> Result<u32, Refused>
+// The nodes of the rules, and their rows in the list.
+fn put_rules(words: &mut [u32], begun: u32, value: &Automaton) -> Result<Staged, Refused>
     requires { Handed value.now }
-    ensures { TableOn (λ table. (held_by value.now).states < length table) (λ table. rules_table table (held_by value.now).rules) words.old begun words.new result }
+    ensures { StageOn (λ table. (held_by value.now).states < length table) (rules_stage (held_by value.now).rules) words.old begun words.new result }
 {
     let mut count = begun;
+    let mut list = Rows::new();
     for &rule in rules(value) {
         let Shape {
             kind,
@@ -82,23 +80,11 @@ fn put_rules(words: &mut [u32], begun: u32, value: &Automaton) -> Result<u32, Re
             second,
             third,
         } = rule_shape(rule, &value.arities);
-        count = maker::new_node(words, count, kind, label, first, second, third)?.count;
+        let got = maker::new_node(words, count, kind, label, first, second, third)?;
+        count = got.count;
+        list.push(rows::row(got.node, rule.target));
     }
-    Ok(count)
-}
-
-// The rows of the rules, whose nodes stand in their order after the holes.
-fn rule_rows(value: &Automaton) -> Rows
-    requires { Handed value.now }
-    ensures { result ≡ rule_rows (suc (held_by value.now).states) (held_by value.now).rules }
-{
-    let mut list = Rows::new();
-    let mut node = value.states.wide();
-    for rule in rules(value) {
-        node += 1;
-        list.push(rows::row(node, rule.target));
-    }
-    list
+    Ok(Staged { count, list })
 }
 
 // The rows of the final states, the lowest first, after other rows.
@@ -120,9 +106,8 @@ pub fn begin(words: &mut [u32], value: &Automaton) -> Result<Staged, Refused>
     ensures { GivesStage words.old (start (held_by value.now)) words.new result }
 {
     let n = value.states.wide();
-    let mut list = rule_rows(value);
-    put_finals(&mut list, n, value.finals);
     let holes = put_holes(words, n)?;
-    let count = put_rules(words, holes, value)?;
-    Ok(Staged { count, list })
+    let mut staged = put_rules(words, holes, value)?;
+    put_finals(&mut staged.list, n, value.finals);
+    Ok(staged)
 }

@@ -45,7 +45,7 @@ pub fn join_rows(
 {
     let mut got = Got { count, node: 0 };
     for &row in rows {
-        if picked(&words[..], row, pick) {
+        if picked(words, row, pick) {
             got = maker::make_alt(words, got.count, got.node, row.node.wide())?;
         }
     }
@@ -81,7 +81,7 @@ fn replace(
     ensures { NodeOn (Both row.node standin) (λ table. replaced_made q.number standin table row) words.old count words.new result }
 {
     let node = row.node.wide();
-    if maker::opens(&words[..], node, q.number) {
+    if maker::opens(words, node, q.number) {
         return maker::make_cat(words, count, q, node, standin);
     }
     Ok(Got { count, node })

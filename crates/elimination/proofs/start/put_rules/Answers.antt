@@ -1,12 +1,12 @@
 use Rattle.std.proofs.lemmas.Result.{err_from_is_err_and}
-use Rattle.elimination.proofs.Starting.{rule-arity, rule-symbol, rules-end, rules-full, rules-next, rules-start}
+use Rattle.elimination.proofs.Starting.{rule-arity, rule-symbol, rules-end, rules-full, rules-next, rules-place, rules-start}
 use Rattle.elimination.proofs.start.put_rules.Goals as goal
 
 pub loop-rule-init : goal.loop-rule-init
 loop-rule-init c =
     let a = c.args in
     let items = c.rules-rule-items in
-    rules-start a.value.now c.requires items.result.now items.ensures a.words.now a.begun
+    rw c.new-list.ensures (rules-start a.value.now c.requires items.result.now items.ensures a.words.now a.begun)
 
 pub rule_shape-kind-requires : goal.rule_shape-kind-requires
 rule_shape-kind-requires c =
@@ -18,15 +18,22 @@ rule_shape-kind-requires c =
       symbol_bound = rule-arity v c.requires items.result.now items.ensures l.rule-index c.loop-rule-test.true;
     }
 
-pub returns-in_err-count : goal.returns-in_err-count
-returns-in_err-count c =
+pub returns-in_err-got : goal.returns-in_err-got
+returns-in_err-got c =
     let a = c.args in
     let items = c.rules-rule-items in
     let l = c.loop-rule in
     let shape = c.rule_shape-kind in
     let p = err_from_is_err_and c.from_residual.result c.from_residual.ensures.1 in
     rw (p.1, p.2)
-    (rules-full a.value.now c.requires items.result.now items.ensures a.words.now a.begun l.words l.count l.rule-index l.invariant c.loop-rule-test.true shape.result shape.ensures c.new_node.new.words c.in_err-count.field-0.0 c.in_err-count.ensures)
+    (rules-full a.value.now c.requires items.result.now items.ensures a.words.now a.begun l.words l.count l.list l.rule-index l.invariant c.loop-rule-test.true shape.result shape.ensures c.new_node.new.words c.in_err-got.field-0.0 c.in_err-got.ensures)
+
+pub push-requires : goal.push-requires
+push-requires c =
+    let a = c.args in
+    let items = c.rules-rule-items in
+    let l = c.loop-rule in
+    rules-place a.value.now c.requires items.result.now items.ensures a.words.now a.begun l.words l.count l.list l.rule-index l.invariant c.loop-rule-test.true
 
 pub loop-rule-preserved : goal.loop-rule-preserved
 loop-rule-preserved c =
@@ -34,11 +41,12 @@ loop-rule-preserved c =
     let items = c.rules-rule-items in
     let l = c.loop-rule in
     let shape = c.rule_shape-kind in
-    rules-next a.value.now c.requires items.result.now items.ensures a.words.now a.begun l.words l.count l.rule-index l.invariant c.loop-rule-test.true shape.result shape.ensures c.new_node.new.words c.in_ok-count.field-0 c.in_ok-count.ensures
+    rw c.push.ensures
+    (rules-next a.value.now c.requires items.result.now items.ensures a.words.now a.begun l.words l.count l.list l.rule-index l.invariant c.loop-rule-test.true shape.result shape.ensures c.new_node.new.words c.in_ok-got.got c.in_ok-got.ensures c.row.result c.row.ensures)
 
 pub returns : goal.returns
 returns c =
     let a = c.args in
     let items = c.rules-rule-items in
     let l = c.loop-rule in
-    rules-end a.value.now c.requires items.result.now items.ensures a.words.now a.begun l.words l.count l.rule-index l.invariant c.loop-rule-test.false
+    rules-end a.value.now c.requires items.result.now items.ensures a.words.now a.begun l.words l.count l.list l.rule-index l.invariant c.loop-rule-test.false
