@@ -160,13 +160,6 @@ module _ (held : Held) (words : List ℕ) where
     pub left-more : (more : List ℕ) → put held f (pile sets) ≡ pile more → Left (k + 1) more
     left-more more e = word_first ∙ e
 
-  -- ---- the end
-
-  pub left-all : (k : ℕ) (sets : List ℕ) → k ≡ length words → Left k sets → alone sets ≡ one_left (pile_of held words)
-  left-all k sets e left =
-      let none : length words - k ≡ 0 = omega arith in
-      sym (ap (λ (n : ℕ). one_left (pile_of held (drop n words))) (sym none) ∙ ap one_left left)
-
 -- ---- the answer
 
 pub pile-answered : (held : Held) (p : Pile) → tree_answer held.finals (one_left p) ≡ pile_answer held p

@@ -1,14 +1,13 @@
-use mathlib.Core.Path.{◌∙◌}
 use Prim.Native.Nat.{◌<◌}
 use mathlib.Core.Path.{◌≡◌}
 use mathlib.Core.List.{reverse}
 use lib.ListN.{length, get_or}
 use native.Mathlib.Omega.{arith}
 use Rattle.std.proofs.Common.{rules}
-use Rattle.std.proofs.lemmas.List.{length_push, length-reverse}
+use Rattle.std.proofs.lemmas.List.{length_push}
 use Rattle.std.proofs.lemmas.Iterator.Adapters.{YieldsList-from_rev_slice}
-use Rattle.std.proofs.lemmas.Iterator.Consumers.{YieldsList-turn, YieldsList-end}
-use Rattle.trees.proofs.Stacking.{left-none, left-broken, left-more, room-left, left-all}
+use Rattle.std.proofs.lemmas.Iterator.Consumers.{YieldsList-turn}
+use Rattle.trees.proofs.Stacking.{left-none, left-broken, left-more, room-left}
 use Rattle.trees.proofs.climb.climb.Goals as goal
 use Rattle.trees.proofs.climb.climb.Goals.{In-Some}
 
@@ -35,8 +34,3 @@ pub loop-word-preserved : goal.loop-word-preserved
 loop-word-preserved g c =
     let read = turn g (goal.at.loop-word-preserved g c).In-Some in
     rw (length_push c.loop-word.yielded c.in-Some.field-0) (left-more c.args.runner.now c.args.words.now (length c.loop-word.yielded) c.in-Some.field-0.now c.loop-word.pile read c.loop-word.invariant _ c.in_ok-put.ensures)
-
-pub returns : goal.returns
-returns g c =
-    let end = YieldsList-end (YieldsList-from_rev_slice c.args.words.now cc) c.loop-word.yielded _ c.loop-word.yielded_by _ _ c.in-None.is c.next.ensures.steps in
-    c.only.ensures ∙ left-all c.args.runner.now c.args.words.now (length c.loop-word.yielded) c.loop-word.pile (end.1 ∙ length-reverse c.args.words.now) c.loop-word.invariant

@@ -1,6 +1,3 @@
-use mathlib.Core.Path.{◌≡◌}
-use native.Mathlib.Omega.{arith}
-use Rattle.automaton.specs.Held.{most_rows}
 use Rattle.trees.proofs.Scanning.{scan-none, scan-fired, scan-missed}
 use Rattle.trees.proofs.columns.Columns.scan.Goals as goal
 use Rattle.trees.proofs.columns.Columns.scan.Goals.{then-missed-eq0, else-missed-eq0}
@@ -16,8 +13,3 @@ loop-i-preserved c =
       | then-missed-eq0 w ↦ rw w.found-is (scan-fired args.self.now args.symbol args.sets loop.i loop.found c.other.result c.other.ensures w.if-missed-eq0.true loop.invariant)
       | else-missed-eq0 w ↦ rw w.found-is (scan-missed args.self.now args.symbol args.sets loop.i loop.found c.other.result c.other.ensures w.if-missed-eq0.false loop.invariant)
     ]
-
-pub returns : goal.returns
-returns c =
-    let all : c.loop-i.i ≡ most_rows = omega arith in
-    rw all at c.loop-i.invariant
