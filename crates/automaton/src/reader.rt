@@ -67,11 +67,11 @@ pub fn first_record<'a, F: Fn(Kind) -> bool>(
     ensures { (so_far : SoFar) → ((kind : Kind) (yes : Bool) → F.post allowed kind yes → yes ≡ kind_allowed so_far (code_of kind))
         → MatchResult result (λ r. RecordRead so_far bytes.now r.kind r.payload.now r.rest.now) (λ reason. record_found so_far bytes.now ≡ wrong (number_of reason)) }
 {
-    let [a, b, c, d, rest @ ..] = bytes else {
+    let [size_low, size_high, kind_low, kind_high, rest @ ..] = bytes else {
         return Err(Refused::BreaksOff);
     };
-    let size = u16::from_le_bytes([*a, *b]);
-    let kind = Kind::try_from(u16::from_le_bytes([*c, *d]))?;
+    let size = u16::from_le_bytes([*size_low, *size_high]);
+    let kind = Kind::try_from(u16::from_le_bytes([*kind_low, *kind_high]))?;
     if !allowed(kind) {
         return Err(Refused::Kind);
     }
@@ -126,7 +126,7 @@ fn places_of(sources: &[u8], states: u8) -> Result<[u8; SOURCE_PLACES], Refused>
 
 impl Automaton {
     // May a record of this kind follow what is found so far?
-    pub fn may_have(&self, kind: Kind) -> bool
+    pub(crate) fn may_have(&self, kind: Kind) -> bool
         ensures { (held : Held) → Says held self.now → result ≡ kind_allowed (given held) (code_of kind) }
     {
         match kind {
@@ -137,7 +137,7 @@ impl Automaton {
     }
 
     // One more symbol, of the arity that the payload says.
-    pub fn add_symbol(&mut self, payload: &[u8]) -> Result<(), Refused>
+    pub(crate) fn add_symbol(&mut self, payload: &[u8]) -> Result<(), Refused>
         requires { length payload.now ≡ 1 }
         ensures { (held : Held) → Says held self.old → Added (symbol_values held payload.now) self.new result }
     {
@@ -151,7 +151,7 @@ impl Automaton {
     }
 
     // One more row, as the payload says it.
-    pub fn add_row(&mut self, payload: &[u8]) -> Result<(), Refused>
+    pub(crate) fn add_row(&mut self, payload: &[u8]) -> Result<(), Refused>
         requires few { self.old.symbols ≤ most_symbols }
         requires two { 2 ≤ length payload.now }
         requires five { length payload.now ≤ 5 }
