@@ -92,12 +92,7 @@ pub fn first_record<'a, F: Fn(Kind) -> bool>(
 pub fn head(file: &[u8]) -> Result<(u8, StateSet, &[u8]), Refused>
     ensures { MatchResult result (λ r. HeadRead file.now r.0 r.1 r.2.now) (λ reason. record_found nothing file.now ≡ wrong (number_of reason)) }
 {
-    let record = first_record(
-        file,
-        |kind| -> bool
-            ensures { result ≡ kind_allowed nothing (code_of kind) }
-        { kind == Kind::Head },
-    )?;
+    let record = first_record(file, |kind| kind == Kind::Head)?;
     let payload = record.payload;
     let states = payload[0];
     let finals = StateSet(u16::from_le_bytes([payload[1], payload[2]]));
