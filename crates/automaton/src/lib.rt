@@ -4,11 +4,8 @@
 mod reader;
 
 ghost use Rattle.std.specs.Prelude.{◌≡◌};
-ghost use Rattle.automaton.specs.Held.{Held};
-ghost use Rattle.automaton.specs.Checks.{given, kind_allowed};
 ghost use Rattle.automaton.specs.Refusals.{refusal_of};
 ghost use Rattle.automaton.specs.Answers.{read_answer, read_of};
-ghost use Rattle.automaton.specs.Inside.{code_of, Says};
 
 use reader::{Kind, Record};
 use sets::StateSet;
@@ -138,12 +135,7 @@ pub fn read(file: &[u8]) -> Result<Automaton, Refused>
         ..NOTHING
     };
     loop {
-        let record = reader::first_record(
-            rest,
-            |kind| -> bool
-                ensures { (held : Held) → Says held found → result ≡ kind_allowed (given held) (code_of kind) }
-            { found.may_have(kind) },
-        )?;
+        let record = reader::first_record(rest, |kind| found.may_have(kind))?;
         match record.kind {
             Kind::Head => unreachable!(),
             Kind::Symbol => found.add_symbol(record.payload)?,

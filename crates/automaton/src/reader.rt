@@ -67,11 +67,11 @@ pub fn first_record<'a, F: Fn(Kind) -> bool>(
     ensures { (so_far : SoFar) → ((kind : Kind) (yes : Bool) → F.post allowed kind yes → yes ≡ kind_allowed so_far (code_of kind))
         → MatchResult result (λ r. RecordRead so_far bytes.now r.kind r.payload.now r.rest.now) (λ reason. record_found so_far bytes.now ≡ wrong (number_of reason)) }
 {
-    let [a, b, c, d, rest @ ..] = bytes else {
+    let [size_low, size_high, kind_low, kind_high, rest @ ..] = bytes else {
         return Err(Refused::BreaksOff);
     };
-    let size = u16::from_le_bytes([*a, *b]);
-    let kind = Kind::try_from(u16::from_le_bytes([*c, *d]))?;
+    let size = u16::from_le_bytes([*size_low, *size_high]);
+    let kind = Kind::try_from(u16::from_le_bytes([*kind_low, *kind_high]))?;
     if !allowed(kind) {
         return Err(Refused::Kind);
     }
@@ -92,12 +92,7 @@ pub fn first_record<'a, F: Fn(Kind) -> bool>(
 pub fn head(file: &[u8]) -> Result<(u8, StateSet, &[u8]), Refused>
     ensures { MatchResult result (λ r. HeadRead file.now r.0 r.1 r.2.now) (λ reason. record_found nothing file.now ≡ wrong (number_of reason)) }
 {
-    let record = first_record(
-        file,
-        |kind| -> bool
-            ensures { result ≡ kind_allowed nothing (code_of kind) }
-        { kind == Kind::Head },
-    )?;
+    let record = first_record(file, |kind| kind == Kind::Head)?;
     let payload = record.payload;
     let states = payload[0];
     let finals = StateSet(u16::from_le_bytes([payload[1], payload[2]]));

@@ -93,9 +93,6 @@ module _ {A : Type 0} (bytes : A → List ℕ) where
 
   module _ (xs : List A) (d : A) (before : List ℕ) (room : length (each bytes xs) ≤ length before)
       (out : List ℕ) (at i : ℕ) (so_far : Put (each bytes (take i xs)) before out at) (same : length out ≡ length before) where
-    pub each-within : at ≤ length out
-    each-within = omega (arith, so_far.counted, each-first xs i)
-
     pub each-done : length xs ≤ i → Put (each bytes xs) before out at
     each-done h = rw (take_all i xs h) at so_far
 

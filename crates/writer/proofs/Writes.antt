@@ -69,18 +69,18 @@ module _ (value : Automaton) (valid : Valid (held_by value)) where
             }
 
         module _ (third : List ℕ) (k : ℕ) (rows-put : Put rows (lent_from (put_mid i (length first - i) first second) (i + j)) third k) where
-          abbrev three-put : List ℕ
-          three-put = put_mid (i + j) (length (put_mid i (length first - i) first second) - (i + j)) (put_mid i (length first - i) first second) third
+          abbrev three_put : List ℕ
+          three_put = put_mid (i + j) (length (put_mid i (length first - i) first second) - (i + j)) (put_mid i (length first - i) first second) third
 
-          three : Put ((head ++ symbols) ++ rows) out three-put (i + j + k)
+          three : Put ((head ++ symbols) ++ rows) out three_put (i + j + k)
           three = puts-both (head ++ symbols) out _ (i + j) two rows third k rows-put
 
-          pub end-room : 4 ≤ length (lent_from three-put (i + j + k))
+          pub end-room : 4 ≤ length (lent_from three_put (i + j + k))
           unfolding end_record
           end-room = rw (record-long 9 []) at (puts-room ((head ++ symbols) ++ rows) out _ (i + j + k) three end_record wide)
 
-          pub file-put : (fourth : List ℕ) (n : ℕ) → Put end_record (lent_from three-put (i + j + k)) fourth n
-              → Put (file_of (held_by value)) out (put_mid (i + j + k) (length three-put - (i + j + k)) three-put fourth) (length (file_of (held_by value)))
+          pub file-put : (fourth : List ℕ) (n : ℕ) → Put end_record (lent_from three_put (i + j + k)) fourth n
+              → Put (file_of (held_by value)) out (put_mid (i + j + k) (length three_put - (i + j + k)) three_put fourth) (length (file_of (held_by value)))
           file-put fourth n end-put =
               let all = puts-both ((head ++ symbols) ++ rows) out _ (i + j + k) three end_record fourth n end-put in
               record { stored = rw whole all.stored; counted = refl }

@@ -1,5 +1,5 @@
-use Rattle.std.proofs.Common.{rules, arith, ◌≡◌, ◌+◌, ◌<◌, ◌∷◌, ◌++◌, [], take, length, get_or, length-take-le, refl, sym, ◌∙◌}
-use Rattle.std.proofs.lemmas.List.{take_more, take_all, set-get_or}
+use Rattle.std.proofs.Common.{rules, arith, ◌≡◌, ◌+◌, ◌<◌, ◌∷◌, ◌++◌, [], take, length, get_or, length-take-le, refl, sym}
+use Rattle.std.proofs.lemmas.List.{take_more}
 use Rattle.automaton.specs.Checks.{all_below}
 use Rattle.ground.proofs.Places.{filled_none, filled-set}
 use Rattle.automaton.proofs.Finding.Below.{below-snoc, below_fails}
@@ -28,13 +28,3 @@ loop-i-preserved c =
       below = rw more (below-snoc c.args.states (take i xs) (get_or xs i 0) c.loop-i.invariant.below (rw is at c.if-states-state.false));
       placed = rw (more, c.loop-i.invariant.placed, is) (filled-set 3 0 (take i xs) (get_or xs i 0) i count (omega arith));
     }
-
-pub returns-after-loop-i : goal.returns-after-loop-i
-returns-after-loop-i c =
-    let all : take c.loop-i.i c.args.sources.now ≡ c.args.sources.now = take_all c.loop-i.i c.args.sources.now (omega arith) in
-    (rw all at c.loop-i.invariant.below, rw all at c.loop-i.invariant.placed)
-
-pub returns-in_default : goal.returns-in_default
-returns-in_default c =
-    let all : take c.loop-i.i c.args.sources.now ≡ c.args.sources.now = take_all c.loop-i.i c.args.sources.now (search rules) in
-    (rw all at c.loop-i.invariant.below, set-get_or c.loop-i.place-items c.loop-i.i 0 ∙ (rw all at c.loop-i.invariant.placed))

@@ -2,27 +2,13 @@ use Rattle.std.proofs.Common.{[], get_or}
 use Rattle.automaton.specs.File.{row_record, each}
 use Rattle.automaton.specs.Answers.{rule_held}
 use Rattle.automaton.specs.declared.Row.{Row}
-use Rattle.writer.proofs.Putting.{puts-none, each-map, each-within, each-room, each-next, each-done}
+use Rattle.writer.proofs.Putting.{puts-none, each-map, each-room, each-next, each-done}
 use Rattle.writer.proofs.Fitting.{row-valid, row-known}
 use Rattle.writer.proofs.puts.put_rows.Goals as goal
 
 pub loop-row-init : goal.loop-row-init
 unfolding each
 loop-row-init c = puts-none c.args.out.now
-
-pub slice_bounds-put_row-count : goal.slice_bounds-put_row-count
-slice_bounds-put_row-count c =
-    let a = c.args in
-    let l = c.loop-row in
-    each-within (λ row. row_record (rule_held a.arities.now row)) a.rows.now (record { symbol = 0; target = 0; sources = [] }) a.out.now
-    (rw (each-map row_record (rule_held a.arities.now) a.rows.now) at c.requires.room) l.out l.at l.row-index l.invariant l.auto.out
-
-pub slice_bounds-put_row-start : goal.slice_bounds-put_row-start
-slice_bounds-put_row-start c =
-    let a = c.args in
-    let l = c.loop-row in
-    each-within (λ row. row_record (rule_held a.arities.now row)) a.rows.now (record { symbol = 0; target = 0; sources = [] }) a.out.now
-    (rw (each-map row_record (rule_held a.arities.now) a.rows.now) at c.requires.room) l.out l.at l.row-index l.invariant l.auto.out
 
 pub put_row-at-requires : goal.put_row-at-requires
 put_row-at-requires c =

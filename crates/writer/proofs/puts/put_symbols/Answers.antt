@@ -1,17 +1,11 @@
 use Rattle.std.proofs.Common.{[], ◌∷◌, get_or}
 use Rattle.automaton.specs.File.{symbol_record, each}
-use Rattle.writer.proofs.Putting.{record-long, puts-none, each-within, each-room, each-next, each-done}
+use Rattle.writer.proofs.Putting.{record-long, puts-none, each-room, each-next}
 use Rattle.writer.proofs.puts.put_symbols.Goals as goal
 
 pub loop-arity-init : goal.loop-arity-init
 unfolding each
 loop-arity-init c = puts-none c.args.out.now
-
-pub slice_bounds-put_record-count : goal.slice_bounds-put_record-count
-slice_bounds-put_record-count c = let l = c.loop-arity in each-within symbol_record c.args.arities.now 0 c.args.out.now c.requires l.out l.at l.arity-index l.invariant l.auto.out
-
-pub slice_bounds-put_record-start : goal.slice_bounds-put_record-start
-slice_bounds-put_record-start c = let l = c.loop-arity in each-within symbol_record c.args.arities.now 0 c.args.out.now c.requires l.out l.at l.arity-index l.invariant l.auto.out
 
 pub put_record-at-requires-clause-room : goal.put_record-at-requires-clause-room
 unfolding symbol_record
@@ -25,6 +19,3 @@ unfolding symbol_record
 loop-arity-preserved c =
     let l = c.loop-arity in
     each-next symbol_record c.args.arities.now 0 c.args.out.now c.requires l.out l.at l.arity-index l.invariant l.auto.out c.loop-arity-test.true c.put_record-at.new.out c.put_record-at.result c.put_record-at.ensures
-
-pub returns : goal.returns
-returns c = let l = c.loop-arity in each-done symbol_record c.args.arities.now 0 c.args.out.now c.requires l.out l.at l.arity-index l.invariant l.auto.out c.loop-arity-test.false
