@@ -43,7 +43,7 @@ fn label_number(kind: u32, label: u32) -> Option<u32>
     }
 }
 
-// The places for children.
+// The places for children. `expressions` has the same for itself alone: a public one would be one more promise.
 fn places(shape: Shape) -> [u32; 3]
     ensures { result ≡ places shape }
 {
@@ -69,7 +69,7 @@ fn children_length(shape: Shape) -> usize
     children.map(|child| field_length(*child)).sum()
 }
 
-// How long the line of a node is.
+// How long the line of a node is. By `as`, here and below, since there is no `From` between `usize` and `u64`.
 fn line_length(number: usize, shape: Shape) -> usize
     requires few { number < 10000 }
     requires fits { Fits number shape }
