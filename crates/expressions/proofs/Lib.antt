@@ -13,3 +13,4 @@ pub mod Decidable
 -- what follows for those who call
 pub mod Making
 pub mod Once
+pub mod Props

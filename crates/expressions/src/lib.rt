@@ -64,7 +64,7 @@ impl From<Result<u32, Refused>> for Measured {
 }
 
 impl Node {
-    // The node with every number 0.
+    // The node with every number 0, which stands for a node that is not there: the promise of `node_at` asks for it (7.20).
     const EMPTY: Node = Node {
         shape: Shape {
             kind: 0,

@@ -60,7 +60,7 @@ pub fn shape_fits(number: usize, shape: Shape) -> bool
     label_fits(shape.kind, shape.label) && places_fit(number, shape)
 }
 
-// The open word of a child.
+// The open word of a child. By `as`, since there is no `From` to a `usize` from a `u32`.
 fn opens_of(nodes: &[[u32; NODE_WIDTH]], child: u32) -> u32
     ensures { result ≡ (node_at (nodes_of nodes.now) child).opens }
 {

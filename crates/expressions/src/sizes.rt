@@ -29,7 +29,7 @@ fn size_at(sizes: &[u32], shape: Shape) -> u32
     }
 }
 
-// The held size of every node.
+// The held size of every node. By its index, since a size is stored among those that it is made of.
 pub fn fill(nodes: &[[u32; NODE_WIDTH]], sizes: &mut [u32])
     requires sound { SoundNodes (nodes_of nodes.now) }
     requires as_many { length sizes.old ≡ length nodes.now }

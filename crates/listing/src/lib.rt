@@ -8,6 +8,8 @@ use automaton::{Refusal, Refused};
 
 mod lines;
 
+use lines::Table;
+
 // The most bytes of a node's line, and of the last line.
 pub const LONGEST_LINE: usize = 30;
 
@@ -39,8 +41,13 @@ pub fn list(words: &[u32], count: usize, answer: usize, out: &mut [u8]) -> Resul
     if !expressions::is_sound(words, count, answer) {
         return Err(Refused::Unsound);
     }
-    if !lines::fits_in(words, count, answer, out.len()) {
+    let table = Table {
+        words,
+        count,
+        answer,
+    };
+    if !table.fits_in(out.len()) {
         return Err(Refused::Short);
     }
-    Ok(lines::put_listing(words, count, answer, out))
+    Ok(table.put(out))
 }

@@ -6,6 +6,7 @@ ghost use Rattle.buffers.specs.Decimal.{decimal};
 ghost use Rattle.buffers.specs.Writing.{Wrote};
 ghost use Rattle.expressions.specs.Nodes.{kind_of, places, children};
 ghost use Rattle.expressions.specs.Soundness.{Fits, Sound};
+ghost use Rattle.expressions.proofs.Props.{sound-prop};
 ghost use Rattle.listing.specs.Listing.{spaced, plain_label, node_line, answer_line};
 ghost use Rattle.listing.specs.Answers.{listing_of};
 ghost use Rattle.listing.specs.Inside.{name_bytes, number_in, label_bytes, FitsThen};
@@ -42,7 +43,7 @@ fn label_number(kind: u32, label: u32) -> Option<u32>
     }
 }
 
-// The places for children.
+// The places for children. `expressions` has the same for itself alone: a public one would be one more promise.
 fn places(shape: Shape) -> [u32; 3]
     ensures { result ≡ places shape }
 {
@@ -68,7 +69,7 @@ fn children_length(shape: Shape) -> usize
     children.map(|child| field_length(*child)).sum()
 }
 
-// How long the line of a node is.
+// How long the line of a node is. By `as`, here and below, since there is no `From` between `usize` and `u64`.
 fn line_length(number: usize, shape: Shape) -> usize
     requires few { number < 10000 }
     requires fits { Fits number shape }
@@ -77,26 +78,6 @@ fn line_length(number: usize, shape: Shape) -> usize
     let label = label_number(shape.kind, shape.label).map_or(0, field_length);
     let head = buffers::digits(number as u64) + name(shape.kind).len() + label;
     head + children_length(shape) + 1
-}
-
-// How long the listing is.
-fn listing_length(words: &[u32], count: usize, answer: usize) -> usize
-    requires { Sound words.now count answer }
-    ensures { result ≡ length (listing_of words.now count answer) }
-{
-    let mut total = 0;
-    for i in 0..count {
-        total += line_length(i, expressions::node_at(words, i).shape);
-    }
-    total + 8 + buffers::digits(answer as u64)
-}
-
-// Does the listing fit so many bytes? Where even the longest lines would, nothing is counted.
-pub fn fits_in(words: &[u32], count: usize, answer: usize, room: usize) -> bool
-    requires { Sound words.now count answer }
-    ensures { Decides (length (listing_of words.now count answer) ≤ room) result }
-{
-    LONGEST_LINE * count + LONGEST_ANSWER <= room || listing_length(words, count, answer) <= room
 }
 
 // ---- bytes
@@ -194,16 +175,46 @@ impl Page<'_> {
     }
 }
 
-// The listing, from the first byte on, and its length.
-pub fn put_listing(words: &[u32], count: usize, answer: usize, out: &mut [u8]) -> usize
-    requires sound { Sound words.now count answer }
-    requires answer_in_bounds { length (listing_of words.now count answer) ≤ length out.old }
-    ensures { Wrote out.old 0 (listing_of words.now count answer) out.new result }
-{
-    let mut page = Page { out, at: 0 };
-    for i in 0..count {
-        page.line(i, expressions::node_at(words, i).shape);
+// ---- the listing
+
+// A sound table: its words, how many nodes it has, and its answer.
+#[derive(Clone, Copy)]
+pub struct Table<'a> {
+    pub words: &'a [u32],
+    pub count: usize,
+    pub answer: usize,
+    ghost sound: { Sound words.now count answer } by { sound-prop words.now count answer },
+}
+
+impl Table<'_> {
+    // How long the listing is.
+    fn length(&self) -> usize
+        ensures { result ≡ length (listing_of self.now.words.now self.now.count self.now.answer) }
+    {
+        let mut total = 0;
+        for i in 0..self.count {
+            total += line_length(i, expressions::node_at(self.words, i).shape);
+        }
+        total + 8 + buffers::digits(self.answer as u64)
     }
-    page.answer(answer);
-    page.at
+
+    // Does the listing fit so many bytes? Where even the longest lines would, nothing is counted.
+    pub fn fits_in(&self, room: usize) -> bool
+        ensures { Decides (length (listing_of self.now.words.now self.now.count self.now.answer) ≤ room) result }
+    {
+        LONGEST_LINE * self.count + LONGEST_ANSWER <= room || self.length() <= room
+    }
+
+    // The listing, from the first byte on, and its length.
+    pub fn put(&self, out: &mut [u8]) -> usize
+        requires { length (listing_of self.now.words.now self.now.count self.now.answer) ≤ length out.old }
+        ensures { Wrote out.old 0 (listing_of self.now.words.now self.now.count self.now.answer) out.new result }
+    {
+        let mut page = Page { out, at: 0 };
+        for i in 0..self.count {
+            page.line(i, expressions::node_at(self.words, i).shape);
+        }
+        page.answer(self.answer);
+        page.at
+    }
 }
