@@ -26,7 +26,7 @@ use Rattle.expressions.specs.Nodes.{Table, label_of, empty_shape, hole_shape, sy
 use Rattle.expressions.specs.Soundness.{Fits}
 use Rattle.expressions.proofs.Making.{empty-fits, hole-fits}
 use Rattle.theory.specs.declared.NodeRow.{NodeRow}
-use Rattle.theory.specs.RowLists.{ascending, list_places, final_target}
+use Rattle.theory.specs.RowLists.{ascending, final_target}
 use Rattle.theory.specs.Stages.{hole_at, holes_table, rule_shape, rules_table, rule_rows, final_node_row, added, with_node}
 use Rattle.theory.proofs.Nodes.Grows.{Grown, grown-none, grown-then, grown-longer, with-grows, rules-grow}
 use Rattle.theory.proofs.Nodes.StartTable.{with-length}
@@ -207,9 +207,6 @@ module _ (value : Automaton) (handed : Handed value) (items : List Row) (read : 
         record { has = subst (λ (t : Table). HasTable before t words count) x.still_table x.has; listed = sym (append-nil list) ∙ x.still_rows }
 
     module _ (h : i < length items) where
-      pub rules-place : length list < list_places
-      rules-place = let a = l.far in let b = rule-in value handed items read i h in let f = handed.valid.few_rules in omega arith
-
       module _ (shape : Shape) (es : shape ≡ row_shape (get_or items i past_row) (get_or value.arities (get_or items i past_row).symbol 0)) (after : List ℕ) where
         one : Rule
         one = rule value handed items read i h

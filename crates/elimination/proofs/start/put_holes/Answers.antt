@@ -1,9 +1,4 @@
-use Prim.Native.Nat.{ℕ}
-use mathlib.Core.Path.{◌≡◌, subst}
-use native.Mathlib.Omega.{arith}
 use Rattle.std.proofs.lemmas.Result.{err_from_is_err_and}
-use Rattle.theory.specs.Stages.{holes_table}
-use Rattle.elimination.specs.Inside.{HasTable}
 use Rattle.elimination.proofs.Starting.{empty-full, empty-put, holes-full, holes-more}
 use Rattle.elimination.proofs.start.put_holes.Goals as goal
 
@@ -29,11 +24,3 @@ loop-q-preserved c =
     let a = c.args in
     let l = c.loop-q in
     holes-more a.n c.requires a.words.now l.words l.count l.q l.invariant c.loop-q-test.true c.new_node-in-loop-q.new.words c.in_ok-count-2.field-0 c.in_ok-count-2.ensures
-
-pub returns : goal.returns
-returns c =
-    let l = c.loop-q in
-    let t = c.loop-q-test.false in
-    let m = l.auto.q-end in
-    let e : l.q ≡ c.args.n = omega arith in
-    subst (λ (n : ℕ). HasTable c.args.words.now (holes_table n) l.words l.count) e l.invariant

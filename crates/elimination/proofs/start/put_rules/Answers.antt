@@ -1,5 +1,5 @@
 use Rattle.std.proofs.lemmas.Result.{err_from_is_err_and}
-use Rattle.elimination.proofs.Starting.{rule-arity, rule-symbol, rules-end, rules-full, rules-next, rules-place, rules-start}
+use Rattle.elimination.proofs.Starting.{rule-arity, rule-symbol, rules-end, rules-full, rules-next, rules-start}
 use Rattle.elimination.proofs.start.put_rules.Goals as goal
 
 pub loop-rule-init : goal.loop-rule-init
@@ -27,13 +27,6 @@ returns-in_err-got c =
     let p = err_from_is_err_and c.from_residual.result c.from_residual.ensures.1 in
     rw (p.1, p.2)
     (rules-full a.value.now c.requires items.result.now items.ensures a.words.now a.begun l.words l.count l.list l.rule-index l.invariant c.loop-rule-test.true shape.result shape.ensures c.new_node.new.words c.in_err-got.field-0.0 c.in_err-got.ensures)
-
-pub push-requires : goal.push-requires
-push-requires c =
-    let a = c.args in
-    let items = c.rules-rule-items in
-    let l = c.loop-rule in
-    rules-place a.value.now c.requires items.result.now items.ensures a.words.now a.begun l.words l.count l.list l.rule-index l.invariant c.loop-rule-test.true
 
 pub loop-rule-preserved : goal.loop-rule-preserved
 loop-rule-preserved c =

@@ -1,27 +1,9 @@
 use Prim.Native.Nat.{ℕ}
 use lib.ListN.{get_or}
 use mathlib.Core.Path.{◌∙◌, ap}
-use native.Mathlib.Omega.{arith}
 use Rattle.elimination.specs.Inside.{row_shape}
 use Rattle.elimination.proofs.Starting.{row-shape}
 use Rattle.elimination.proofs.start.rule_shape.Goals as goal
-
-pub bounds-arities-at : goal.bounds-arities-at
-bounds-arities-at c = let e = c.index-at.ensures.0 in let p = c.requires.symbol_lt_most_symbols in omega arith
-
-pub overflow_mul-result : goal.overflow_mul-result
-overflow_mul-result c =
-    let a = c.args in
-    let w = c.wide-arity.ensures ∙ ap (λ (n : ℕ). get_or a.arities.now n 0) c.index-at.ensures.0 in
-    let p = c.requires.symbol_bound in
-    omega arith
-
-pub overflow_add-result : goal.overflow_add-result
-overflow_add-result c =
-    let a = c.args in
-    let w = c.wide-arity.ensures ∙ ap (λ (n : ℕ). get_or a.arities.now n 0) c.index-at.ensures.0 in
-    let p = c.requires.symbol_bound in
-    omega arith
 
 pub returns : goal.returns
 returns c =

@@ -1,5 +1,4 @@
 use mathlib.Core.Path.{refl, sym, ◌∙◌}
-use native.Mathlib.Omega.{arith}
 use Rattle.std.proofs.lemmas.Result.{err_from_is_err_and}
 use Rattle.elimination.proofs.Replacing.{replace-end, replace-full, replace-gone, replace-more, replace-start}
 use Rattle.elimination.proofs.step.replace_rows.Goals as goal
@@ -9,13 +8,6 @@ pub loop-row-init : goal.loop-row-init
 loop-row-init c =
     let a = c.args in
     rw c.new-list.ensures (replace-start a.q.number a.x.node a.rows.now a.words.now a.x.count)
-
-pub push-requires : goal.push-requires
-push-requires c =
-    let short = c.loop-row.invariant.short in
-    let t = c.loop-row-test.true in
-    let few = c.requires in
-    omega arith
 
 pub returns-in_err-got : goal.returns-in_err-got
 returns-in_err-got c =
