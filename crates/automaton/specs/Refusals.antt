@@ -3,6 +3,7 @@ use Rattle.std.specs.Prelude.{ℕ, Result, Ok, Err}
 use Rattle.automaton.specs.declared.Refused.{Refused}
 use Rattle.automaton.specs.declared.Refused.TheVariants.{BreaksOff, Kind, Length, Limit, PastEnd, Short, NoTree, Unsound, TooFar}
 use Rattle.automaton.specs.declared.Refusal.{Refusal}
+use Rattle.automaton.specs.declared.Extent.{Extent}
 
 -- the refusal of this number [4.1 to 4.9]
 abbrev pub refusal : ℕ → Refusal
@@ -28,6 +29,11 @@ number_of TooFar = 9
 abbrev pub refusal_of : {T : Type 0} → Result T Refused → Refusal
 refusal_of (Ok value) = no_refusal
 refusal_of (Err reason) = refusal (number_of reason)
+
+-- the refusal and the length in a result that is a length: 0 on a refusal [4.20] [12.13]
+abbrev pub extent_of : Result ℕ Refused → Extent
+extent_of (Ok size) = record { refusal = no_refusal; length = size }
+extent_of (Err reason) = record { refusal = refusal (number_of reason); length = 0 }
 
 -- a file's fault, as it is handed on: its number alone [3.7]
 abbrev pub fault_refusal : (number offset : ℕ) → Refusal

@@ -4,7 +4,7 @@
 mod reader;
 
 ghost use Rattle.std.specs.Prelude.{◌≡◌};
-ghost use Rattle.automaton.specs.Refusals.{refusal_of};
+ghost use Rattle.automaton.specs.Refusals.{refusal_of, extent_of};
 ghost use Rattle.automaton.specs.Answers.{read_answer, read_of};
 
 use reader::{Kind, Record};
@@ -64,6 +64,25 @@ impl<T: Drop> From<Result<T, Refused>> for Refusal {
             Err(reason) => Refusal {
                 number: reason as u8,
             },
+        }
+    }
+}
+
+// How many bytes of what was lent are filled, as C has it: 0 on a refusal.
+#[repr(C)]
+#[derive(Clone, Copy)]
+pub struct Extent {
+    pub refusal: Refusal,
+    pub length: usize,
+}
+
+impl From<Result<usize, Refused>> for Extent {
+    ghost from_gives = { λ r extent. extent ≡ extent_of r };
+
+    fn from(r: Result<usize, Refused>) -> Extent {
+        Extent {
+            refusal: r.into(),
+            length: r.unwrap_or(0),
         }
     }
 }

@@ -5,7 +5,7 @@ ghost use Rattle.elimination.specs.Answers.{PartlyAnswered, WhollyAnswered};
 ghost use Rattle.front.specs.Answers.{Prints};
 
 use elimination::{Partly, Wholly};
-use front::Printing;
+use automaton::Extent;
 
 #[unsafe(no_mangle)]
 pub extern "C" fn door_convert_partly(file: &[u8], k: u32, nodes: &mut [u32]) -> Partly
@@ -22,7 +22,7 @@ pub extern "C" fn door_convert(file: &[u8], nodes: &mut [u32]) -> Wholly
 }
 
 #[unsafe(no_mangle)]
-pub extern "C" fn door_printed(file: &[u8], nodes: &mut [u32], out: &mut [u8]) -> Printing
+pub extern "C" fn door_printed(file: &[u8], nodes: &mut [u32], out: &mut [u8]) -> Extent
     ensures { Prints file.now nodes.old nodes.new out.old out.new result }
 {
     front::printed(file, nodes, out).into()

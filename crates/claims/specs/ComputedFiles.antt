@@ -2,7 +2,7 @@
 use Rattle.std.specs.Prelude.{ℕ, zero, suc, ◌≤◌, ◌≡◌, List, [], ◌∷◌, ◌++◌, length, replicate}
 use Rattle.automaton.specs.declared.Row.{Row}
 use Rattle.automaton.specs.declared.Automaton.{Automaton}
-use Rattle.writer.specs.declared.Writing.{Writing}
+use Rattle.automaton.specs.declared.Extent.{Extent}
 use Rattle.automaton.specs.Held.{Rule, Held, Valid}
 use Rattle.automaton.specs.File.{file_of}
 use Rattle.automaton.specs.Checks.{verdict, holds, fault}
@@ -142,7 +142,7 @@ pub record FileCases : Type 0 where
         rows = row 0 0 (0 ∷ 0 ∷ 0 ∷ []) ∷ row 1 1 (0 ∷ 0 ∷ 0 ∷ []) ∷ row 1 1 (1 ∷ 0 ∷ 0 ∷ []) ∷ replicate 61 (row 0 0 (0 ∷ 0 ∷ 0 ∷ []));
       }
   pub p_loose : (others : List ℕ) (rows : List Row) → held_by (loose_p others rows) ≡ held_p
-  pub p_written : (others : List ℕ) (rows : List Row) (after : List ℕ) (w : Writing) → Written (loose_p others rows) (replicate 44 255) after w
+  pub p_written : (others : List ℕ) (rows : List Row) (after : List ℕ) (w : Extent) → Written (loose_p others rows) (replicate 44 255) after w
       → (w ≡ writing no_refusal 43) × (after ≡ file_p ++ (255 ∷ []))
-  pub p_unwritten : (others : List ℕ) (rows : List Row) (after : List ℕ) (w : Writing) → Written (loose_p others rows) (replicate 42 255) after w
+  pub p_unwritten : (others : List ℕ) (rows : List Row) (after : List ℕ) (w : Extent) → Written (loose_p others rows) (replicate 42 255) after w
       → (w ≡ writing (refusal 6) 0) × (after ≡ replicate 42 255)

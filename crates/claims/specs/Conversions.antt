@@ -10,7 +10,7 @@ use Rattle.trees.specs.Words.{IsTree}
 use Rattle.trees.specs.Runs.{Accepted}
 use Rattle.trees.specs.Promises.{RunPromise}
 use Rattle.expressions.specs.declared.Measured.{Measured}
-use Rattle.listing.specs.declared.Listed.{Listed}
+use Rattle.automaton.specs.declared.Extent.{Extent}
 use Rattle.meaning.specs.Expressions.{Denotes}
 use Rattle.expressions.specs.Nodes.{node_at}
 use Rattle.expressions.specs.Words.{table_of}
@@ -58,7 +58,7 @@ pub record Ended (held : Held) (words : List ℕ) (r : Wholly) : Type 0 where
   -- the check says yes of it, and neither measuring nor listing refuses it 8 [7.9]
   pub sound : (s : Bool) → SoundAnswer words r.nodes r.answer s → s ≡ true
   pub measured : (before after : List ℕ) (m : Measured) → Measures words r.nodes r.answer before after m → m.refusal.number ≡ 8 → ⊥
-  pub listed : (before after : List ℕ) (l : Listed) → Lists words r.nodes r.answer before after l → l.refusal.number ≡ 8 → ⊥
+  pub listed : (before after : List ℕ) (l : Extent) → Lists words r.nodes r.answer before after l → l.refusal.number ≡ 8 → ⊥
 
 pub record ConvertsFaithfully : Type 0 where
   -- at every stop [1.6 to 1.8]

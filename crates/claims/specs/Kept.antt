@@ -17,7 +17,7 @@ use Rattle.expressions.specs.Making.{Makes}
 use Rattle.expressions.specs.Answers.{SoundAnswer, Measures}
 use Rattle.listing.specs.Answers.{Lists}
 use Rattle.elimination.specs.Answers.{PartlyAnswered, WhollyAnswered}
-use Rattle.front.specs.declared.Printing.{Printing}
+use Rattle.automaton.specs.declared.Extent.{Extent}
 use Rattle.front.specs.Answers.{Prints}
 use Rattle.claims.specs.Types.{Byte, Short, Word, Long, Bytes, Words, SetFits, RefusalFits, ReadingFits, WritingFits, ReachedFits, ProductiveFits, ShapeFits, NodeFits, MeasuredFits, ListedFits, PartlyFits, WhollyFits, PrintingFits}
 
@@ -73,4 +73,4 @@ pub record EachKept : Type 0 where
   pub convert : (file before : List ℕ) → KeptBoth WhollyFits Words before (WhollyAnswered file before)
   -- what is printed [9.13]: two buffers
   pub printed : (file nodes out : List ℕ) → Long (length out)
-      → (after bytes : List ℕ) × (r : Printing) × Prints file nodes after out bytes r × Stays Words nodes after × Stays Bytes out bytes × PrintingFits r
+      → (after bytes : List ℕ) × (r : Extent) × Prints file nodes after out bytes r × Stays Words nodes after × Stays Bytes out bytes × PrintingFits r

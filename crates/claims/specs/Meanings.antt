@@ -3,7 +3,7 @@ use Rattle.std.specs.Prelude.{ℕ, ◌≤◌, ◌<◌, ◌≡◌, true, ◌⊎�
 use Rattle.sets.specs.Members.{has}
 use Rattle.automaton.specs.declared.Automaton.{Automaton}
 use Rattle.automaton.specs.declared.Reading.{Reading}
-use Rattle.writer.specs.declared.Writing.{Writing}
+use Rattle.automaton.specs.declared.Extent.{Extent}
 use Rattle.automaton.specs.Held.{Held, Valid}
 use Rattle.automaton.specs.File.{file_of}
 use Rattle.automaton.specs.Checks.{verdict, holds}
@@ -79,12 +79,12 @@ pub record MeansWhatItShould : Type 0 where
   pub nodes : (words : List ℕ) (count answer : ℕ) → Sound words count answer
       → (i : ℕ) → i < count → NodeMeans (table_of words count) i (node_at (table_of words count) i).shape
   -- a value that was written is read again as the same, with 0 in its unused places [1.5]
-  pub value_and_back : (value : Automaton) (before after : List ℕ) (w : Writing) → Written value before after w → w.refusal.number ≡ 0
+  pub value_and_back : (value : Automaton) (before after : List ℕ) (w : Extent) → Written value before after w → w.refusal.number ≡ 0
       → (r : Reading) → r ≡ read_answer (take w.length after)
       → (r.refusal.number ≡ 0) × (r.automaton ≡ placed (held_by value)) × (held_by r.automaton ≡ held_by value)
   -- a file that was read, written again, is the same bytes [1.5]
   pub file_and_back : (file : List ℕ) → Bytes file → (r : Reading) → r ≡ read_answer file → r.refusal.number ≡ 0
-      → (before after : List ℕ) (w : Writing) → length file ≤ length before → Written r.automaton before after w
+      → (before after : List ℕ) (w : Extent) → length file ≤ length before → Written r.automaton before after w
       → (w ≡ writing no_refusal (length file)) × (after ≡ file ++ drop (length file) before)
   -- bytes hold an automaton exactly when that keeps the limits and they are its file [3.20]
   pub file_exactly : (file : List ℕ) (held : Held) → Bytes file → (verdict file ≡ holds held) ↔ (Valid held × (file ≡ file_of held))

@@ -6,7 +6,7 @@ use Rattle.buffers.specs.Writing.{all_zero}
 use Rattle.automaton.specs.declared.Automaton.{Automaton}
 use Rattle.automaton.specs.declared.Refusal.{Refusal}
 use Rattle.automaton.specs.declared.Reading.{Reading}
-use Rattle.writer.specs.declared.Writing.{Writing}
+use Rattle.automaton.specs.declared.Extent.{Extent}
 use Rattle.automaton.specs.Held.{Held}
 use Rattle.automaton.specs.File.{file_of}
 use Rattle.automaton.specs.Checks.{verdict, holds, fault}
@@ -17,7 +17,6 @@ use Rattle.trees.specs.declared.ProductiveStates.{ProductiveStates}
 use Rattle.trees.specs.Words.{NoTree}
 use Rattle.trees.specs.Promises.{RunPromise, ProductivePromise}
 use Rattle.expressions.specs.declared.Measured.{Measured}
-use Rattle.listing.specs.declared.Listed.{Listed}
 use Rattle.expressions.specs.declared.Shape.{Shape}
 use Rattle.expressions.specs.Soundness.{Fits, Sound}
 use Rattle.expressions.specs.Making.{Room, Makes}
@@ -28,7 +27,6 @@ use Rattle.elimination.specs.declared.Wholly.{Wholly}
 use Rattle.theory.specs.Stages.{stage_after, converted}
 use Rattle.elimination.specs.Answers.{whole_nodes, unused_place, PartlyAnswered, WhollyAnswered}
 use Rattle.theory.specs.RowLists.{list_places}
-use Rattle.front.specs.declared.Printing.{Printing}
 use Rattle.front.specs.Text.{printed_text}
 use Rattle.front.specs.Answers.{Prints}
 
@@ -119,7 +117,7 @@ pub record WordsLeft (number : ℕ) (before after : List ℕ) : Type 0 where
 pub record RefusesExactly : Type 0 where
   pub read : (file : List ℕ) (r : Reading) → r ≡ read_answer file
       → Refuses file_numbers (FileRefused file) r.refusal.number (r.automaton ≡ no_automaton)
-  pub write : (value : Automaton) (before after : List ℕ) (r : Writing) → Written value before after r
+  pub write : (value : Automaton) (before after : List ℕ) (r : Extent) → Written value before after r
       → Refuses (4 ∷ 6 ∷ []) (WriteRefused value before) r.refusal.number ((r.length ≡ 0) × (after ≡ before))
   pub run : (file words : List ℕ) (r : ReachedStates) → RunPromise file words r
       → Refuses (7 ∷ file_numbers) (RunRefused file words) r.refusal.number ((r.states.0 ≡ 0) × (r.yes ≡ false))
@@ -131,7 +129,7 @@ pub record RefusesExactly : Type 0 where
       → Refuses (8 ∷ 6 ∷ []) (MakeRefused before count shape) r.number (after ≡ before)
   pub measure : (words : List ℕ) (count answer : ℕ) (before after : List ℕ) (r : Measured) → Measures words count answer before after r
       → Refuses (8 ∷ 6 ∷ []) (MeasureRefused words count answer before) r.refusal.number ((r.size ≡ 0) × (after ≡ before))
-  pub list : (words : List ℕ) (count answer : ℕ) (before after : List ℕ) (r : Listed) → Lists words count answer before after r
+  pub list : (words : List ℕ) (count answer : ℕ) (before after : List ℕ) (r : Extent) → Lists words count answer before after r
       → Refuses (8 ∷ 6 ∷ []) (ListRefused words count answer before) r.refusal.number ((r.length ≡ 0) × (after ≡ before))
   pub convert_partly : (file : List ℕ) (k : ℕ) (before after : List ℕ) (r : Partly) → PartlyAnswered file k before after r
       → Refuses (9 ∷ 6 ∷ file_numbers) (PartlyRefused file k before) r.refusal.number
@@ -140,6 +138,6 @@ pub record RefusesExactly : Type 0 where
       → Refuses (6 ∷ file_numbers) (WhollyRefused file before) r.refusal.number
       ((r.nodes ≡ 0) × (r.answer ≡ 0) × WordsLeft r.refusal.number before after)
   -- a file's refusal stands in the text, so that 6 is the only number [9.13]
-  pub printed : (file nodes after out bytes : List ℕ) (r : Printing) → Prints file nodes after out bytes r
+  pub printed : (file nodes after out bytes : List ℕ) (r : Extent) → Prints file nodes after out bytes r
       → Refuses (6 ∷ []) (PrintRefused file nodes out) r.refusal.number
       ((r.length ≡ 0) × (after ≡ all_zero nodes) × (bytes ≡ out))

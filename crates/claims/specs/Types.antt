@@ -7,18 +7,16 @@ use Rattle.automaton.specs.declared.Automaton.{Automaton}
 use Rattle.automaton.specs.declared.Refusal.{Refusal}
 use Rattle.automaton.specs.declared.Reading.{Reading}
 use Rattle.automaton.specs.Held.{most_symbols, most_arity, most_rows}
-use Rattle.writer.specs.declared.Writing.{Writing}
+use Rattle.automaton.specs.declared.Extent.{Extent}
 use Rattle.trees.specs.declared.ReachedStates.{ReachedStates}
 use Rattle.trees.specs.declared.ProductiveStates.{ProductiveStates}
 use Rattle.expressions.specs.declared.Shape.{Shape}
 use Rattle.expressions.specs.declared.Node.{Node}
 use Rattle.expressions.specs.declared.Measured.{Measured}
-use Rattle.listing.specs.declared.Listed.{Listed}
 use Rattle.elimination.specs.declared.ListRow.{ListRow}
 use Rattle.elimination.specs.declared.Partly.{Partly}
 use Rattle.elimination.specs.declared.Wholly.{Wholly}
 use Rattle.theory.specs.RowLists.{list_places}
-use Rattle.front.specs.declared.Printing.{Printing}
 
 -- ---- numbers
 
@@ -71,7 +69,7 @@ pub record AutomatonFits (value : Automaton) : Type 0 where
 abbrev pub ReadingFits : Reading → Type 0
 ReadingFits r = RefusalFits r.refusal × AutomatonFits r.automaton
 
-abbrev pub WritingFits : Writing → Type 0
+abbrev pub WritingFits : Extent → Type 0
 WritingFits r = RefusalFits r.refusal × Long r.length
 
 -- of `run` and of `productive` [5.5, 5.8]
@@ -92,7 +90,7 @@ NodeFits node = ShapeFits node.shape × Word node.opens
 abbrev pub MeasuredFits : Measured → Type 0
 MeasuredFits r = RefusalFits r.refusal × Word r.size
 
-abbrev pub ListedFits : Listed → Type 0
+abbrev pub ListedFits : Extent → Type 0
 ListedFits r = RefusalFits r.refusal × Long r.length
 
 -- a place of the list; of `convert_partly` and of `convert` [8.21, 8.22, 8.26]
@@ -110,5 +108,5 @@ abbrev pub WhollyFits : Wholly → Type 0
 WhollyFits r = RefusalFits r.refusal × Long r.nodes × Long r.answer
 
 -- of `printed` [9.13]
-abbrev pub PrintingFits : Printing → Type 0
+abbrev pub PrintingFits : Extent → Type 0
 PrintingFits r = RefusalFits r.refusal × Long r.length

@@ -8,7 +8,7 @@ use Rattle.trees.specs.declared.ReachedStates.{ReachedStates}
 use Rattle.meaning.specs.Trees.{Tree, node, []ᶠ, ◌∷ᶠ◌}
 use Rattle.trees.specs.Promises.{RunPromise}
 use Rattle.expressions.specs.declared.Measured.{Measured}
-use Rattle.listing.specs.declared.Listed.{Listed}
+use Rattle.automaton.specs.declared.Extent.{Extent}
 use Rattle.meaning.specs.Expressions.{Denotes}
 use Rattle.expressions.specs.Words.{node_width, table_of}
 use Rattle.expressions.specs.Unfolding.{expr_at}
@@ -20,7 +20,6 @@ use Rattle.elimination.specs.declared.Wholly.{Wholly}
 use Rattle.theory.specs.Stages.{bound_of}
 use Rattle.theory.specs.RowLists.{list_places}
 use Rattle.elimination.specs.Answers.{PartlyAnswered, WhollyAnswered}
-use Rattle.front.specs.declared.Printing.{Printing}
 use Rattle.front.specs.Answers.{printing, Prints}
 use Rattle.claims.specs.Slips.{leaf}
 use Rattle.claims.specs.DraftFiles.{file_p, file_pairs, file_nested, file_endless, file_rowless, file_finalless, file_unused, file_order, file_grouping}
@@ -165,11 +164,11 @@ pub record WorkedDrafts : Type 0 where
       → 10 ≤ length scratch → Measures after r.nodes r.answer scratch sizes m
       → (m ≡ measured 0 12) × (sizes ≡ sizes_p ++ drop 10 scratch)
   -- its listing, of 123 bytes [10.3]
-  pub p_listing : (before after out bytes : List ℕ) (r : Wholly) (l : Listed) → 60 ≤ length before → WhollyAnswered file_p before after r
+  pub p_listing : (before after out bytes : List ℕ) (r : Wholly) (l : Extent) → 60 ≤ length before → WhollyAnswered file_p before after r
       → 123 ≤ length out → Lists after r.nodes r.answer out bytes l
       → (l ≡ listed 0 123) × (bytes ≡ listing_p ++ drop 123 out)
   -- which is also the text for P [9.11, 10.3]
-  pub p_printed : (nodes after out bytes : List ℕ) (r : Printing) → 60 ≤ length nodes → 123 ≤ length out → Prints file_p nodes after out bytes r
+  pub p_printed : (nodes after out bytes : List ℕ) (r : Extent) → 60 ≤ length nodes → 123 ≤ length out → Prints file_p nodes after out bytes r
       → (r ≡ printing 0 123) × (bytes ≡ listing_p ++ drop 123 out)
   -- the bound for P [10.4]
   pub p_bound : (held : Held) → verdict file_p ≡ holds held → bound_of held ≡ 17

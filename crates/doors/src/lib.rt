@@ -13,11 +13,9 @@ ghost use Rattle.expressions.specs.Making.{Makes};
 ghost use Rattle.expressions.specs.Answers.{SoundAnswer, Measures};
 ghost use Rattle.listing.specs.Answers.{Lists};
 
-use automaton::{Automaton, Reading, Refusal};
+use automaton::{Automaton, Extent, Reading, Refusal};
 use expressions::{Measured, Node, Shape};
-use listing::Listed;
 use trees::{ProductiveStates, ReachedStates};
-use writer::Writing;
 
 // ---- the automaton file
 
@@ -29,7 +27,7 @@ pub extern "C" fn door_read(file: &[u8]) -> Reading
 }
 
 #[unsafe(no_mangle)]
-pub extern "C" fn door_write(value: Automaton, out: &mut [u8]) -> Writing
+pub extern "C" fn door_write(value: Automaton, out: &mut [u8]) -> Extent
     ensures { Written value out.old out.new result }
 {
     writer::write(value, out).into()
@@ -103,7 +101,7 @@ pub extern "C" fn door_measure(
 }
 
 #[unsafe(no_mangle)]
-pub extern "C" fn door_list(words: &[u32], count: usize, answer: usize, out: &mut [u8]) -> Listed
+pub extern "C" fn door_list(words: &[u32], count: usize, answer: usize, out: &mut [u8]) -> Extent
     ensures { Lists words.now count answer out.old out.new result }
 {
     listing::list(words, count, answer, out).into()

@@ -12,7 +12,7 @@ use Rattle.automaton.specs.Checks.{Verdict, holds, fault, verdict}
 use Rattle.expressions.specs.Nodes.{Table}
 use Rattle.expressions.specs.Words.{node_width, table_of}
 use Rattle.listing.specs.Listing.{plain_label, listing}
-use Rattle.listing.specs.declared.Listed.{Listed}
+use Rattle.automaton.specs.declared.Extent.{Extent}
 use Rattle.listing.specs.Answers.{listed, listing_of, Lists}
 use Rattle.expressions.proofs.Words.{table-words}
 use Rattle.elimination.specs.declared.Wholly.{Wholly}
@@ -20,7 +20,6 @@ use Rattle.theory.specs.Stages.{converted}
 use Rattle.elimination.specs.Answers.{whole_nodes, written_to, refused_whole, wholly_done, WhollyAnswered}
 use Rattle.buffers.specs.Writing.{all_zero}
 use Rattle.elimination.proofs.Outcomes.{wholly-sound}
-use Rattle.front.specs.declared.Printing.{Printing}
 use Rattle.front.specs.Text.{refused_line, converted_listing, text_of, printed_text}
 use Rattle.front.specs.Answers.{nodes_made, TooShort, nodes_left, printing, Prints}
 use Rattle.front.specs.Inside.{Refuses}
@@ -70,7 +69,7 @@ module _ (file nodes out : List ℕ) where
 
   -- ---- one outcome
 
-  pub prints-once : (after after' bytes bytes' : List ℕ) (r s : Printing) → Prints file nodes after out bytes r → Prints file nodes after' out bytes' s
+  pub prints-once : (after after' bytes bytes' : List ℕ) (r s : Extent) → Prints file nodes after out bytes r → Prints file nodes after' out bytes' s
       → (r ≡ s) × ((after ≡ after') × (bytes ≡ bytes'))
   prints-once after after' bytes bytes' r s p q = go (dec_lt (whole_nodes nodes) (nodes_made (verdict file))) (dec_lt (length out) (length (printed_text file)))
     where
@@ -126,7 +125,7 @@ module _ (file nodes after : List ℕ) (r : Wholly) (w : WhollyAnswered file nod
         go (holds held) e = absurd (not-held held e (dec_lt (whole_nodes nodes) (length (converted held).table)))
         go (fault number offset) e = omega (arith, fault-given number offset e, (fault-number file number offset e).1)
 
-    module _ (left out bytes : List ℕ) (p : Printing) (x : Refuses r.refusal.number after left out bytes p) where
+    module _ (left out bytes : List ℕ) (p : Extent) (x : Refuses r.refusal.number after left out bytes p) where
       pub prints-refused : Prints file nodes left out bytes p
       unfolding nodes_left
       prints-refused = go (verdict file) refl
@@ -168,7 +167,7 @@ module _ (file nodes after : List ℕ) (r : Wholly) (w : WhollyAnswered file nod
         go (holds held) e = room held e (dec_lt (whole_nodes nodes) (length (converted held).table))
         go (fault number offset) e = absurd (fault-some file number offset e (sym (fault-given number offset e) ∙ zero))
 
-    module _ (out bytes : List ℕ) (l : Listed) (x : Lists after r.nodes r.answer out bytes l) where
+    module _ (out bytes : List ℕ) (l : Extent) (x : Lists after r.nodes r.answer out bytes l) where
       module _ (held : Held) (e : verdict file ≡ holds held) (fits : length (converted held).table ≤ whole_nodes nodes) where
         -- what is listed is the text
         listed-text : listing_of after r.nodes r.answer ≡ printed_text file
@@ -193,18 +192,18 @@ module _ (file nodes after : List ℕ) (r : Wholly) (w : WhollyAnswered file nod
           go held e fits (yes h) =
               let t = short-bytes file nodes out h in
               record { short = λ _. (refl, (z ∙ ap (λ (n : ℕ). replicate n 0) same, (list-short held e fits h).1)); done = λ n. absurd (n t) }
-          go held e fits (no h) = absurd (some (ap (λ (a : Listed). a.refusal.number) (list_done held e fits (omega arith)).0))
+          go held e fits (no h) = absurd (some (ap (λ (a : Extent). a.refusal.number) (list_done held e fits (omega arith)).0))
 
       pub prints-listed : l.refusal.number ≡ 0 → Prints file nodes after out bytes (printing 0 l.length)
       unfolding nodes_left
       prints-listed none = when-done (λ held e fits. go held e fits (dec_lt (length out) (length (printed_text file))))
         where
           go : (held : Held) (e : verdict file ≡ holds held) (fits : length (converted held).table ≤ whole_nodes nodes) → Dec (length out < length (printed_text file)) → Prints file nodes after out bytes (printing 0 l.length)
-          go held e fits (yes h) = absurd (omega (arith, ap (λ (a : Listed). a.refusal.number) (list-short held e fits h).0))
+          go held e fits (yes h) = absurd (omega (arith, ap (λ (a : Extent). a.refusal.number) (list-short held e fits h).0))
           go held e fits (no h) =
               let d = list_done held e fits (omega arith) in
               let n = room-both file nodes out (omega (arith, made_holds file held e)) (omega arith) in
               record {
                 short = λ t. absurd (n t);
-                done = λ _. (ap (λ (a : Listed). printing 0 a.length) d.0, ((w.done held e fits).1 ∙ ap (λ (v : Verdict). nodes_left v nodes) (sym e), d.1));
+                done = λ _. (ap (λ (a : Extent). printing 0 a.length) d.0, ((w.done held e fits).1 ∙ ap (λ (v : Verdict). nodes_left v nodes) (sym e), d.1));
               }

@@ -1,4 +1,5 @@
 -- The room with which `printed` is never short: 1,393 nodes, and the bytes of the longest listing that so many nodes may have.
+use Rattle.automaton.specs.Refusals.{extent_of}
 use Prim.Native.Nat.{ℕ, ◌≤◌}
 use native.Mathlib.Omega.{arith}
 use mathlib.Core.Path.{◌≡◌, refl, ◌∙◌, ap, ap₂}
@@ -15,9 +16,9 @@ use Rattle.theory.proofs.Theorem.{wholly-ascending}
 use Rattle.std.specs.Prelude.{Result, Ok, Err, IsOk}
 use Rattle.automaton.specs.declared.Refused.{Refused}
 use Rattle.automaton.proofs.Refusing.{number-some}
-use Rattle.front.specs.declared.Printing.{Printing}
+use Rattle.automaton.specs.declared.Extent.{Extent}
 use Rattle.front.specs.Text.{converted_listing, printed_text}
-use Rattle.front.specs.Answers.{nodes_made, TooShort, printing_of, Prints, most_made, node_room, text_room}
+use Rattle.front.specs.Answers.{nodes_made, TooShort, Prints, most_made, node_room, text_room}
 use Rattle.front.proofs.Outcomes.{text-holds, made_holds, text-fault-length, made_fault, room-both}
 
 -- ---- any file
@@ -57,21 +58,21 @@ module _ (file : List ℕ) where
         room-both file nodes out (omega arith) (omega arith)
 
     -- so the answer is 0
-    pub never-six : (after text : List ℕ) (r : Printing) → Prints file nodes after out text r → r.refusal.number ≡ 0
-    never-six after text r p = ap (λ (a : Printing). a.refusal.number) (p.done room-enough).0
+    pub never-six : (after text : List ℕ) (r : Extent) → Prints file nodes after out text r → r.refusal.number ≡ 0
+    never-six after text r p = ap (λ (a : Extent). a.refusal.number) (p.done room-enough).0
 
     -- and the text stands at the start of the bytes
-    pub text-within : (after text : List ℕ) (r : Printing) → Prints file nodes after out text r → r.length ≤ length text
+    pub text-within : (after text : List ℕ) (r : Extent) → Prints file nodes after out text r → r.length ≤ length text
     text-within after text r p =
         let d = p.done room-enough in
-        omega (arith, ap (λ (a : Printing). a.length) d.0, ap length d.1.1, length-append (printed_text file) (drop (length (printed_text file)) out))
+        omega (arith, ap (λ (a : Extent). a.length) d.0, ap length d.1.1, length-append (printed_text file) (drop (length (printed_text file)) out))
 
-    pub text-exact : (after text : List ℕ) (r : Printing) → Prints file nodes after out text r → take r.length text ≡ printed_text file
+    pub text-exact : (after text : List ℕ) (r : Extent) → Prints file nodes after out text r → take r.length text ≡ printed_text file
     text-exact after text r p =
         let d = p.done room-enough in
-        ap₂ take (ap (λ (a : Printing). a.length) d.0) d.1.1 ∙ take_at (printed_text file) (drop (length (printed_text file)) out) (length (printed_text file)) refl
+        ap₂ take (ap (λ (a : Extent). a.length) d.0) d.1.1 ∙ take_at (printed_text file) (drop (length (printed_text file)) out) (length (printed_text file)) refl
 
     -- so no result of `printed` is a refusal
-    pub never-refused : (after text : List ℕ) (r : Result ℕ Refused) → Prints file nodes after out text (printing_of r) → IsOk r
+    pub never-refused : (after text : List ℕ) (r : Result ℕ Refused) → Prints file nodes after out text (extent_of r) → IsOk r
     never-refused after text (Ok size) p = refl
-    never-refused after text (Err reason) p = absurd (number-some reason (never-six after text (printing_of (Err reason)) p))
+    never-refused after text (Err reason) p = absurd (number-some reason (never-six after text (extent_of (Err reason)) p))

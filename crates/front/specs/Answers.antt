@@ -8,7 +8,7 @@ use Rattle.listing.specs.Listing.{longest_line, longest_answer}
 use Rattle.theory.specs.Stages.{converted}
 use Rattle.elimination.specs.Answers.{whole_nodes, written_to}
 use Rattle.buffers.specs.Writing.{all_zero}
-use Rattle.front.specs.declared.Printing.{Printing}
+use Rattle.automaton.specs.declared.Extent.{Extent}
 use Rattle.front.specs.Text.{printed_text}
 
 -- the nodes that a file's conversion makes: none where the file is refused
@@ -25,16 +25,11 @@ unfoldable pub nodes_left : Verdict → List ℕ → List ℕ
 nodes_left (holds held) before = written_to before (converted held).table
 nodes_left (fault number offset) before = before
 
-abbrev pub printing : ℕ → ℕ → Printing
+abbrev pub printing : ℕ → ℕ → Extent
 printing number size = record { refusal = refusal number; length = size }
 
--- the numbers of a result of `printed` [9.13, 12.13]
-abbrev pub printing_of : Result ℕ Refused → Printing
-printing_of (Ok size) = printing 0 size
-printing_of (Err reason) = printing (number_of reason) 0
-
 -- A file's refusal stands in the text and not in the number that is returned: with a number of 1 to 5 the bytes would have to stay as they were. So 0 says that the text stands in the bytes [9.13].
-pub record Prints (file nodes_before nodes_after out_before out_after : List ℕ) (r : Printing) : Type 0 where
+pub record Prints (file nodes_before nodes_after out_before out_after : List ℕ) (r : Extent) : Type 0 where
   -- [4.22]
   pub short : TooShort file nodes_before out_before → (r ≡ printing 6 0) × ((nodes_after ≡ all_zero nodes_before) × (out_after ≡ out_before))
   -- [9.13, 4.24]

@@ -1,8 +1,7 @@
 // The line "refused N".
 ghost use Rattle.std.specs.Prelude.{◌≡◌, ◌++◌, ◌≤◌, length, drop};
-ghost use Rattle.automaton.specs.Refusals.{number_of};
+ghost use Rattle.automaton.specs.Refusals.{number_of, extent_of};
 ghost use Rattle.front.specs.Text.{refused_line};
-ghost use Rattle.front.specs.Answers.{printing_of};
 ghost use Rattle.front.specs.Inside.{Refuses};
 
 use automaton::Refused;
@@ -22,7 +21,7 @@ fn put_refused(out: &mut [u8], reason: Refused)
 
 // The text for a file that is refused for this reason, and its length; where it does not fit the bytes, the words are all 0.
 pub fn refuse(reason: Refused, nodes: &mut [u32], out: &mut [u8]) -> Result<usize, Refused>
-    ensures { Refuses (number_of reason) nodes.old nodes.new out.old out.new (printing_of result) }
+    ensures { Refuses (number_of reason) nodes.old nodes.new out.old out.new (extent_of result) }
 {
     if out.len() < LINE {
         buffers::zero(nodes);

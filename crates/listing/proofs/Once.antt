@@ -5,13 +5,13 @@ use native.Mathlib.Decide.{dec_lt}
 use mathlib.Core.Path.{◌≡◌}
 use mathlib.Core.List.{List}
 use lib.ListN.{length}
-use Rattle.listing.specs.declared.Listed.{Listed}
+use Rattle.automaton.specs.declared.Extent.{Extent}
 use Rattle.expressions.specs.Soundness.{Sound}
 use Rattle.listing.specs.Answers.{Lists, listing_of}
 use Rattle.ground.proofs.Deciding.{alike}
 use Rattle.expressions.proofs.Decidable.{dec-sound}
 
-pub list-once : (words : List ℕ) (count answer : ℕ) (before after other : List ℕ) (r s : Listed)
+pub list-once : (words : List ℕ) (count answer : ℕ) (before after other : List ℕ) (r s : Extent)
     → Lists words count answer before after r → Lists words count answer before other s → (r ≡ s) × (after ≡ other)
 list-once words count answer before after other r s p q = go (dec-sound words count answer) (dec_lt (length before) (length (listing_of words count answer)))
   where

@@ -4,24 +4,19 @@ use Rattle.automaton.specs.declared.Refused.{Refused}
 use Rattle.automaton.specs.Refusals.{refusal, number_of}
 use Rattle.expressions.specs.Words.{table_of}
 use Rattle.expressions.specs.Soundness.{Sound}
-use Rattle.listing.specs.declared.Listed.{Listed}
+use Rattle.automaton.specs.declared.Extent.{Extent}
 use Rattle.listing.specs.Listing.{plain_label, listing}
 
 -- the answer of `list` with this refusal and this length
-abbrev pub listed : ℕ → ℕ → Listed
+abbrev pub listed : ℕ → ℕ → Extent
 listed number size = record { refusal = refusal number; length = size }
-
--- the numbers of a result of `list` [9.8, 12.13]
-abbrev pub listed_of : Result ℕ Refused → Listed
-listed_of (Ok size) = listed 0 size
-listed_of (Err reason) = listed (number_of reason) 0
 
 -- the listing of the first so many nodes of the words, with labels as numbers [9.4] to [9.7]
 unfoldable pub listing_of : List ℕ → ℕ → ℕ → List ℕ
 listing_of words count answer = listing plain_label (table_of words count) answer
 
 -- what `list` promises, of the words, the bytes before and after, and its result: 8 for words that are not sound, then 6 for too few bytes, and nothing changes; else the bytes begin with the listing, and its length is returned [9.8]
-pub record Lists (words : List ℕ) (count answer : ℕ) (before after : List ℕ) (result : Listed) : Type 0 where
+pub record Lists (words : List ℕ) (count answer : ℕ) (before after : List ℕ) (result : Extent) : Type 0 where
   pub unsound : (Sound words count answer → ⊥) → (result ≡ listed 8 0) × (after ≡ before)
   pub short : Sound words count answer → length before < length (listing_of words count answer) → (result ≡ listed 6 0) × (after ≡ before)
   pub done : Sound words count answer → length (listing_of words count answer) ≤ length before

@@ -1,10 +1,10 @@
 // The listing of a node table: a line for each node, and one that names the answer.
 #![tactic(auto)]
 
-ghost use Rattle.std.specs.Prelude.{◌≡◌};
-ghost use Rattle.listing.specs.Answers.{Lists, listed_of};
+ghost use Rattle.automaton.specs.Refusals.{extent_of};
+ghost use Rattle.listing.specs.Answers.{Lists};
 
-use automaton::{Refusal, Refused};
+use automaton::Refused;
 
 mod lines;
 
@@ -15,28 +15,9 @@ pub const LONGEST_LINE: usize = 30;
 
 pub const LONGEST_ANSWER: usize = 12;
 
-// The listing's length as C has it, 0 on a refusal.
-#[repr(C)]
-#[derive(Clone, Copy)]
-pub struct Listed {
-    pub refusal: Refusal,
-    pub length: usize,
-}
-
-impl From<Result<usize, Refused>> for Listed {
-    ghost from_gives = { λ r given. given ≡ listed_of r };
-
-    fn from(r: Result<usize, Refused>) -> Listed {
-        Listed {
-            refusal: r.into(),
-            length: r.unwrap_or(0),
-        }
-    }
-}
-
 // The listing of the table, into the bytes, and its length.
 pub fn list(words: &[u32], count: usize, answer: usize, out: &mut [u8]) -> Result<usize, Refused>
-    ensures { Lists words.now count answer out.old out.new (listed_of result) }
+    ensures { Lists words.now count answer out.old out.new (extent_of result) }
 {
     if !expressions::is_sound(words, count, answer) {
         return Err(Refused::Unsound);

@@ -2,8 +2,8 @@
 use crate::drafts::Draft;
 use crate::say::{Left, Say, Shown, say};
 use crate::tables;
+use automaton::Extent;
 use elimination::{ListRow, Partly, Wholly};
-use front::Printing;
 
 pub fn convert(draft: &Draft, words: &mut [u32]) -> Wholly {
     elimination::convert(draft.file, words).into()
@@ -45,7 +45,7 @@ pub fn partly(draft: &Draft, states: u32, words: &mut [u32]) {
 
 // What the program `convert` prints for the file, in these words and bytes.
 pub fn printed(draft: &Draft, words: &mut [u32], out: &mut [u8]) {
-    let printing = Printing::from(front::printed(draft.file, words, out));
+    let printing = Extent::from(front::printed(draft.file, words, out));
     say!("printed ", draft.name, ": ", printing.refusal, ", length ");
     say!(printing.length, ", text ", Shown(out), Left(words), "\n")
 }

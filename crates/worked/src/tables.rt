@@ -4,9 +4,8 @@ ghost use Rattle.std.specs.Prelude.{◌<◌};
 use crate::conversions;
 use crate::drafts::P;
 use crate::say::{Shown, Spaced, say};
-use automaton::Refusal;
+use automaton::{Extent, Refusal};
 use expressions::{ARITY_STEP, Measured, Shape};
-use listing::Listed;
 
 pub const EMPTY: Shape = Shape {
     kind: 0,
@@ -122,7 +121,7 @@ pub fn measure_doubled(last: u32) {
 
 // P's table listed in these bytes.
 pub fn list(count: usize, answer: usize, out: &mut [u8]) {
-    let listed = Listed::from(listing::list(&of_p(), count, answer, out));
+    let listed = Extent::from(listing::list(&of_p(), count, answer, out));
     say!("list P, count ", count, ", answer ", answer, ": ");
     say!(listed.refusal, ", length ", listed.length);
     say!(", text ", Shown(out), "\n")

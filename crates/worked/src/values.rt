@@ -1,8 +1,7 @@
 // Files read to values, and values written to files.
 use crate::drafts::Draft;
 use crate::say::{Spaced, say};
-use automaton::{Automaton, Reading, Row};
-use writer::Writing;
+use automaton::{Automaton, Extent, Reading, Row};
 
 fn reading(draft: &Draft) -> Reading {
     automaton::read(draft.file).into()
@@ -52,7 +51,7 @@ pub fn write(draft: &Draft, states: u8, out: &mut [u8]) {
         states,
         ..reading(draft).automaton
     };
-    let writing = Writing::from(writer::write(value, out));
+    let writing = Extent::from(writer::write(value, out));
     say!("write ", draft.name, " with ", states, " states to ");
     say!(out.len(), " bytes: ", writing.refusal);
     say!(", length ", writing.length, ", bytes", Spaced(out), "\n")

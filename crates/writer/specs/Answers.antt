@@ -7,19 +7,14 @@ use Rattle.automaton.specs.Held.{Valid}
 use Rattle.automaton.specs.File.{file_of}
 use Rattle.automaton.specs.Refusals.{refusal, no_refusal, number_of}
 use Rattle.automaton.specs.Answers.{held_by}
-use Rattle.writer.specs.declared.Writing.{Writing}
+use Rattle.automaton.specs.declared.Extent.{Extent}
 
 -- what is returned: a refusal, and the file's length
-abbrev pub writing : Refusal → ℕ → Writing
+abbrev pub writing : Refusal → ℕ → Extent
 writing given size = record { refusal = given; length = size }
 
--- the numbers of a result of `write` [3.20, 12.13]
-abbrev pub writing_of : Result ℕ Refused → Writing
-writing_of (Ok size) = writing no_refusal size
-writing_of (Err reason) = writing (refusal (number_of reason)) 0
-
 -- 4 where no file has the value, then 6 where the bytes are too few, and nothing is changed; done, the file stands at the front and its length is returned [3.20 to 3.23, 4.24]
-pub record Written (value : Automaton) (before after : List ℕ) (answer : Writing) : Type 0 where
+pub record Written (value : Automaton) (before after : List ℕ) (answer : Extent) : Type 0 where
   pub unfit : (Valid (held_by value) → ⊥) → (answer ≡ writing (refusal 4) 0) × (after ≡ before)
   pub short : Valid (held_by value) → length before < length (file_of (held_by value)) → (answer ≡ writing (refusal 6) 0) × (after ≡ before)
   pub done : Valid (held_by value) → length (file_of (held_by value)) ≤ length before

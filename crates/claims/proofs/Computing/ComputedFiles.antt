@@ -5,7 +5,7 @@ use mathlib.Core.Path.{◌≡◌, refl, ◌∙◌, ap}
 use mathlib.Core.List.{List, [], ◌∷◌, ◌++◌}
 use lib.ListN.{length, replicate}
 use Rattle.automaton.specs.declared.Row.{Row}
-use Rattle.writer.specs.declared.Writing.{Writing}
+use Rattle.automaton.specs.declared.Extent.{Extent}
 use Rattle.ground.specs.Lists.{All, filled, firsts}
 use Rattle.automaton.specs.Held.{ValidRule, Valid}
 use Rattle.automaton.specs.File.{two_bytes, file_record, head_record, symbol_record, row_record, end_record, each, file_of}
@@ -50,7 +50,7 @@ p_loose others rows = refl
 P-valid : Valid held_p
 P-valid = omega arith
 
-module _ (others : List ℕ) (rows : List Row) (after : List ℕ) (w : Writing) where
+module _ (others : List ℕ) (rows : List Row) (after : List ℕ) (w : Extent) where
   file : file_of (held_by (loose_p others rows)) ≡ file_p
   file = ap file_of (p_loose others rows) ∙ p_file
 

@@ -19,7 +19,7 @@ use Rattle.trees.specs.Words.{IsTree}
 use Rattle.trees.specs.Runs.{Accepted}
 use Rattle.trees.specs.Promises.{RunPromise}
 use Rattle.expressions.specs.declared.Measured.{Measured}
-use Rattle.listing.specs.declared.Listed.{Listed}
+use Rattle.automaton.specs.declared.Extent.{Extent}
 use Rattle.meaning.specs.Expressions.{Denotes}
 use Rattle.expressions.specs.Nodes.{Table, node_at}
 use Rattle.expressions.specs.Words.{node_width, table_of, words_of}
@@ -122,12 +122,12 @@ measure-fine words count answer sound before after m x n = go (dec_lt (length be
     go (yes l) = omega (arith, ap (λ (a : Measured). a.refusal.number) (x.short sound l).0)
     go (no l) = omega (arith, ap (λ (a : Measured). a.refusal.number) (x.done sound (omega arith)).0)
 
-list-fine : (words : List ℕ) (count answer : ℕ) → Sound words count answer → (before after : List ℕ) (l : Listed) → Lists words count answer before after l → l.refusal.number ≡ 8 → ⊥
+list-fine : (words : List ℕ) (count answer : ℕ) → Sound words count answer → (before after : List ℕ) (l : Extent) → Lists words count answer before after l → l.refusal.number ≡ 8 → ⊥
 list-fine words count answer sound before after l x n = go (dec_lt (length before) (length (listing_of words count answer)))
   where
     go : Dec (length before < length (listing_of words count answer)) → ⊥
-    go (yes h) = omega (arith, ap (λ (a : Listed). a.refusal.number) (x.short sound h).0)
-    go (no h) = omega (arith, ap (λ (a : Listed). a.refusal.number) (x.done sound (omega arith)).0)
+    go (yes h) = omega (arith, ap (λ (a : Extent). a.refusal.number) (x.short sound h).0)
+    go (no h) = omega (arith, ap (λ (a : Extent). a.refusal.number) (x.done sound (omega arith)).0)
 
 ended : (file before after : List ℕ) (r : Wholly) → WhollyAnswered file before after r → r.refusal.number ≡ 0
     → (held : Held) → verdict file ≡ holds held → Ended held after r

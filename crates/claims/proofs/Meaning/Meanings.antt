@@ -10,7 +10,7 @@ use lib.Seq.{length-take-le}
 use Rattle.sets.specs.Members.{has}
 use Rattle.automaton.specs.declared.Automaton.{Automaton}
 use Rattle.automaton.specs.declared.Reading.{Reading}
-use Rattle.writer.specs.declared.Writing.{Writing}
+use Rattle.automaton.specs.declared.Extent.{Extent}
 use Rattle.automaton.specs.Held.{Held}
 use Rattle.ground.specs.Lists.{All}
 use Rattle.automaton.specs.Checks.{verdict, holds}
@@ -104,7 +104,7 @@ meets file words r p held tree e is =
 
 -- ---- files and values
 
-value_and_back : (value : Automaton) (before after : List ℕ) (w : Writing) → Written value before after w → w.refusal.number ≡ 0
+value_and_back : (value : Automaton) (before after : List ℕ) (w : Extent) → Written value before after w → w.refusal.number ≡ 0
     → (r : Reading) → r ≡ read_answer (take w.length after)
     → (r.refusal.number ≡ 0) × (r.automaton ≡ placed (held_by value)) × (held_by r.automaton ≡ held_by value)
 value_and_back value before after w p z r e =
@@ -113,7 +113,7 @@ value_and_back value before after w p z r e =
     (ap (λ (a : Reading). a.refusal.number) c, same, ap held_by same ∙ held-placed (held_by value) (written-file value before after w p z).0)
 
 file_and_back : (file : List ℕ) → Bytes file → (r : Reading) → r ≡ read_answer file → r.refusal.number ≡ 0
-    → (before after : List ℕ) (w : Writing) → length file ≤ length before → Written r.automaton before after w
+    → (before after : List ℕ) (w : Extent) → length file ≤ length before → Written r.automaton before after w
     → (w ≡ writing no_refusal (length file)) × (after ≡ file ++ drop (length file) before)
 file_and_back file b r e z before after w h p =
     let c = read_held file r e z in

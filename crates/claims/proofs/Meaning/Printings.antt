@@ -13,7 +13,7 @@ use Rattle.buffers.specs.Decimal.{decimal_in, decimal}
 use Rattle.listing.specs.Listing.{spaced, line}
 use Rattle.theory.specs.Stages.{converted}
 use Rattle.elimination.specs.Answers.{whole_nodes}
-use Rattle.front.specs.declared.Printing.{Printing}
+use Rattle.automaton.specs.declared.Extent.{Extent}
 use Rattle.front.specs.Text.{refused_line, converted_listing, text_of, printed_text, most_read}
 use Rattle.front.specs.Answers.{nodes_made, TooShort, nodes_left, printing, Prints}
 use Rattle.front.proofs.Outcomes.{text-holds, made_holds, text-fault, made_fault, text-fault-length, short-nodes, short-bytes, room-both}
@@ -71,13 +71,13 @@ text-bytes file = go (verdict file)
     go (fault number offset) = line-bytes _ (decimal number ∷ []) (omega arith) (decimal-bytes number, tt)
 
 pub printed-kept : (file nodes out : List ℕ) → Long (length out)
-    → (after bytes : List ℕ) × (r : Printing) × Prints file nodes after out bytes r × Stays Words nodes after × Stays Bytes out bytes × PrintingFits r
+    → (after bytes : List ℕ) × (r : Extent) × Prints file nodes after out bytes r × Stays Words nodes after × Stays Bytes out bytes × PrintingFits r
 printed-kept file nodes out long = go (too_short file nodes out)
   where
     text : List ℕ
     text = printed_text file
 
-    go : Dec (TooShort file nodes out) → (after bytes : List ℕ) × (r : Printing) × Prints file nodes after out bytes r × Stays Words nodes after × Stays Bytes out bytes × PrintingFits r
+    go : Dec (TooShort file nodes out) → (after bytes : List ℕ) × (r : Extent) × Prints file nodes after out bytes r × Stays Words nodes after × Stays Bytes out bytes × PrintingFits r
     go (yes t) = (all_zero nodes, out, printing 6 0, record { short = λ _. (refl, (refl, refl)); done = λ n. absurd (n t) }, zero-stays nodes, stays_same Bytes out, omega arith)
     go (no n) =
         let fits = text-fits file nodes out n in (
@@ -92,7 +92,7 @@ printed-kept file nodes out long = go (too_short file nodes out)
 
 -- ---- the line of a refusal
 
-refused : (file nodes after out bytes : List ℕ) (r : Printing) (number offset : ℕ) → verdict file ≡ fault number offset → 10 ≤ length out
+refused : (file nodes after out bytes : List ℕ) (r : Extent) (number offset : ℕ) → verdict file ≡ fault number offset → 10 ≤ length out
     → Prints file nodes after out bytes r → (r ≡ printing 0 10) × ((after ≡ nodes) × (bytes ≡ refused_line number ++ drop 10 out))
 unfolding nodes_left
 refused file nodes after out bytes r number offset e h p =
@@ -120,7 +120,7 @@ module _ (file nodes out : List ℕ) where
   unfolding TooShort
   short_back t = rw (verdict-same, text-cap file) t
 
-  first_bytes : (after other bytes others : List ℕ) (r s : Printing) → Prints (take most_read file) nodes after out bytes r → Prints file nodes other out others s
+  first_bytes : (after other bytes others : List ℕ) (r s : Extent) → Prints (take most_read file) nodes after out bytes r → Prints file nodes other out others s
       → (r ≡ s) × ((after ≡ other) × (bytes ≡ others))
   first_bytes after other bytes others r s p q = go (too_short file nodes out)
     where

@@ -10,7 +10,7 @@ use lib.ListN.{length, replicate}
 use Rattle.automaton.specs.declared.Automaton.{Automaton}
 use Rattle.automaton.specs.declared.Refusal.{Refusal}
 use Rattle.automaton.specs.declared.Reading.{Reading}
-use Rattle.writer.specs.declared.Writing.{Writing}
+use Rattle.automaton.specs.declared.Extent.{Extent}
 use Rattle.automaton.specs.Held.{Held, Valid}
 use Rattle.ground.specs.Lists.{All}
 use Rattle.automaton.specs.File.{file_of}
@@ -27,7 +27,6 @@ use Rattle.trees.specs.Words.{IsTree, NoTree}
 use Rattle.trees.specs.Promises.{no_run, RunPromise, no_states, ProductivePromise}
 use Rattle.trees.proofs.Answers.{decide-tree}
 use Rattle.expressions.specs.declared.Measured.{Measured}
-use Rattle.listing.specs.declared.Listed.{Listed}
 use Rattle.expressions.specs.declared.Shape.{Shape}
 use Rattle.expressions.specs.Soundness.{Fits, Sound}
 use Rattle.expressions.specs.Making.{Room, Makes}
@@ -41,7 +40,6 @@ use Rattle.elimination.specs.Answers.{whole_nodes, unused_place, refused_partly,
 use Rattle.buffers.specs.Writing.{all_zero}
 use Rattle.theory.specs.RowLists.{list_places}
 use Rattle.ground.proofs.Lists.{of-all}
-use Rattle.front.specs.declared.Printing.{Printing}
 use Rattle.front.specs.Text.{printed_text}
 use Rattle.front.specs.Answers.{nodes_made, TooShort, Prints}
 use Rattle.front.proofs.Outcomes.{short-nodes, short-bytes, room-both, made_holds, made_fault}
@@ -92,7 +90,7 @@ read-refuses file r p = refuses file_numbers (omega arith) (FileRefused file) _ 
 -- ---- a value
 
 -- some file holds what is valid, and what some file holds is valid
-write-refuses : (value : Automaton) (before after : List ℕ) (r : Writing) → Written value before after r
+write-refuses : (value : Automaton) (before after : List ℕ) (r : Extent) → Written value before after r
     → Refuses (4 ∷ 6 ∷ []) (WriteRefused value before) r.refusal.number ((r.length ≡ 0) × (after ≡ before))
 write-refuses value before after r w = refuses (4 ∷ 6 ∷ []) (omega arith) (WriteRefused value before) _ _ among gives (go (dec-valid held) (dec_lt (length before) (length (file_of held))))
   where
@@ -107,7 +105,7 @@ write-refuses value before after r w = refuses (4 ∷ 6 ∷ []) (omega arith) (W
     unfit none v = none (file_of (held_by value)) (file-verdict (held_by value) v)
 
     number : {given : Refusal} {size : ℕ} → r ≡ writing given size → r.refusal.number ≡ given.number
-    number e = ap (λ (a : Writing). a.refusal.number) e
+    number e = ap (λ (a : Extent). a.refusal.number) e
 
     gives : (n : ℕ) → WriteRefused value before n → r.refusal.number ≡ n
     gives n (no_file none) = number (w.unfit (unfit none)).0
@@ -116,10 +114,10 @@ write-refuses value before after r w = refuses (4 ∷ 6 ∷ []) (omega arith) (W
     go : Dec (Valid (held_by value)) → Dec (length before < length (file_of (held_by value))) → (r.refusal.number ≡ 0) ⊎ (WriteRefused value before r.refusal.number × ((r.length ≡ 0) × (after ≡ before)))
     go (no n) d =
         let c = w.unfit n in
-        inr (rw (number c.0) (no_file (λ file e. n (verdict-valid file (held_by value) e))), (ap (λ (a : Writing). a.length) c.0, c.1))
+        inr (rw (number c.0) (no_file (λ file e. n (verdict-valid file (held_by value) e))), (ap (λ (a : Extent). a.length) c.0, c.1))
     go (yes v) (yes l) =
         let c = w.short v l in
-        inr (rw (number c.0) (buffer_short (file_of (held_by value)) (file-verdict (held_by value) v) l), (ap (λ (a : Writing). a.length) c.0, c.1))
+        inr (rw (number c.0) (buffer_short (file_of (held_by value)) (file-verdict (held_by value) v) l), (ap (λ (a : Extent). a.length) c.0, c.1))
     go (yes v) (no l) = inl (number (w.done v (omega arith)).0)
 
 -- ---- runs
@@ -199,7 +197,7 @@ measure-refuses words count answer before after r m = refuses (8 ∷ 6 ∷ []) (
     go (yes f) (yes l) = let c = m.short f l in inr (rw (gives 6 (scratch_short f l)) (scratch_short f l), (ap (λ (a : Measured). a.size) c.0, c.1))
     go (yes f) (no l) = inl (ap (λ (a : Measured). a.refusal.number) (m.done f (omega arith)).0)
 
-list-refuses : (words : List ℕ) (count answer : ℕ) (before after : List ℕ) (r : Listed) → Lists words count answer before after r
+list-refuses : (words : List ℕ) (count answer : ℕ) (before after : List ℕ) (r : Extent) → Lists words count answer before after r
     → Refuses (8 ∷ 6 ∷ []) (ListRefused words count answer before) r.refusal.number ((r.length ≡ 0) × (after ≡ before))
 list-refuses words count answer before after r m = refuses (8 ∷ 6 ∷ []) (omega arith) (ListRefused words count answer before) _ _ among gives (go (dec-sound words count answer) (dec_lt (length before) (length (listing_of words count answer))))
   where
@@ -208,13 +206,13 @@ list-refuses words count answer before after r m = refuses (8 ∷ 6 ∷ []) (ome
     among n (bytes_short f l) = Memᴰ.tail (Memᴰ.head refl)
 
     gives : (n : ℕ) → ListRefused words count answer before n → r.refusal.number ≡ n
-    gives n (list_unsound k) = ap (λ (a : Listed). a.refusal.number) (m.unsound k).0
-    gives n (bytes_short f l) = ap (λ (a : Listed). a.refusal.number) (m.short f l).0
+    gives n (list_unsound k) = ap (λ (a : Extent). a.refusal.number) (m.unsound k).0
+    gives n (bytes_short f l) = ap (λ (a : Extent). a.refusal.number) (m.short f l).0
 
     go : Dec (Sound words count answer) → Dec (length before < length (listing_of words count answer)) → (r.refusal.number ≡ 0) ⊎ (ListRefused words count answer before r.refusal.number × ((r.length ≡ 0) × (after ≡ before)))
-    go (no k) d = let c = m.unsound k in inr (rw (gives 8 (list_unsound k)) (list_unsound k), (ap (λ (a : Listed). a.length) c.0, c.1))
-    go (yes f) (yes l) = let c = m.short f l in inr (rw (gives 6 (bytes_short f l)) (bytes_short f l), (ap (λ (a : Listed). a.length) c.0, c.1))
-    go (yes f) (no l) = inl (ap (λ (a : Listed). a.refusal.number) (m.done f (omega arith)).0)
+    go (no k) d = let c = m.unsound k in inr (rw (gives 8 (list_unsound k)) (list_unsound k), (ap (λ (a : Extent). a.length) c.0, c.1))
+    go (yes f) (yes l) = let c = m.short f l in inr (rw (gives 6 (bytes_short f l)) (bytes_short f l), (ap (λ (a : Extent). a.length) c.0, c.1))
+    go (yes f) (no l) = inl (ap (λ (a : Extent). a.refusal.number) (m.done f (omega arith)).0)
 
 -- ---- conversions
 
@@ -304,7 +302,7 @@ wholly-refuses file before after r p = refuses (6 ∷ file_numbers) (omega arith
 
 -- ---- what is printed
 
-print-refuses : (file nodes after out bytes : List ℕ) (r : Printing) → Prints file nodes after out bytes r
+print-refuses : (file nodes after out bytes : List ℕ) (r : Extent) → Prints file nodes after out bytes r
     → Refuses (6 ∷ []) (PrintRefused file nodes out) r.refusal.number ((r.length ≡ 0) × (after ≡ replicate (length nodes) 0) × (bytes ≡ out))
 print-refuses file nodes after out bytes r p = refuses (6 ∷ []) (omega arith) (PrintRefused file nodes out) _ _ among gives (go (verdict file) refl)
   where
@@ -316,18 +314,18 @@ print-refuses file nodes after out bytes r p = refuses (6 ∷ []) (omega arith) 
     among n (print_bytes l) = Memᴰ.head refl
 
     six : TooShort file nodes out → r.refusal.number ≡ 6
-    six t = ap (λ (a : Printing). a.refusal.number) (p.short t).0
+    six t = ap (λ (a : Extent). a.refusal.number) (p.short t).0
 
     gives : (n : ℕ) → PrintRefused file nodes out n → r.refusal.number ≡ n
     gives n (print_nodes held e l) = six (short-nodes file nodes out (rw (made_holds file held e) l))
     gives n (print_bytes l) = six (short-bytes file nodes out l)
 
     short : TooShort file nodes out → PrintRefused file nodes out 6 → (r.refusal.number ≡ 0) ⊎ (PrintRefused file nodes out r.refusal.number × Left)
-    short t x = let c = p.short t in inr (rw (six t) x, (ap (λ (a : Printing). a.length) c.0, c.1.0, c.1.1))
+    short t x = let c = p.short t in inr (rw (six t) x, (ap (λ (a : Extent). a.length) c.0, c.1.0, c.1.1))
 
     bytes-room : nodes_made (verdict file) ≤ whole_nodes nodes → Dec (length out < length (printed_text file)) → (r.refusal.number ≡ 0) ⊎ (PrintRefused file nodes out r.refusal.number × Left)
     bytes-room h (yes l) = short (short-bytes file nodes out l) (print_bytes l)
-    bytes-room h (no l) = inl (ap (λ (a : Printing). a.refusal.number) (p.done (room-both file nodes out h (omega arith))).0)
+    bytes-room h (no l) = inl (ap (λ (a : Extent). a.refusal.number) (p.done (room-both file nodes out h (omega arith))).0)
 
     nodes-room : (held : Held) → verdict file ≡ holds held → Dec (whole_nodes nodes < length (converted held).table) → (r.refusal.number ≡ 0) ⊎ (PrintRefused file nodes out r.refusal.number × Left)
     nodes-room held e (yes l) = short (short-nodes file nodes out (rw (made_holds file held e) l)) (print_nodes held e l)

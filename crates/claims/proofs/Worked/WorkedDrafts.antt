@@ -9,7 +9,7 @@ use Rattle.automaton.specs.Held.{Held}
 use Rattle.automaton.specs.Checks.{holds, verdict}
 use Rattle.meaning.specs.Trees.{Tree}
 use Rattle.expressions.specs.declared.Measured.{Measured}
-use Rattle.listing.specs.declared.Listed.{Listed}
+use Rattle.automaton.specs.declared.Extent.{Extent}
 use Rattle.expressions.specs.Nodes.{Table}
 use Rattle.expressions.specs.Words.{node_width, table_of, words_of}
 use Rattle.expressions.specs.Unfolding.{expr_at}
@@ -24,7 +24,6 @@ use Rattle.theory.specs.Stages.{converted, bound_of}
 use Rattle.elimination.specs.Answers.{whole_nodes, written_to, refused_partly, PartlyAnswered, refused_whole, wholly_done, WhollyAnswered}
 use Rattle.theory.specs.RowLists.{list_places}
 use Rattle.elimination.proofs.Outcomes.{wholly-sound}
-use Rattle.front.specs.declared.Printing.{Printing}
 use Rattle.front.specs.Text.{printed_text}
 use Rattle.front.specs.Answers.{printing, Prints}
 use Rattle.front.proofs.Outcomes.{text-holds, made_holds, room-both}
@@ -127,7 +126,7 @@ P-measured before after scratch sizes r m h x l y =
     let each : sizes_of (table_of after 10) ≡ sizes_p = rw d.1 (P-sizes (drop 60 before)) in
     (z.0 ∙ ap (measured 0) one, z.1 ∙ ap (◌++ drop 10 scratch) each)
 
-P-listed : (before after out bytes : List ℕ) (r : Wholly) (l : Listed) → 60 ≤ length before → WhollyAnswered file_p before after r
+P-listed : (before after out bytes : List ℕ) (r : Wholly) (l : Extent) → 60 ≤ length before → WhollyAnswered file_p before after r
     → 123 ≤ length out → Lists after r.nodes r.answer out bytes l → (l ≡ listed 0 123) × (bytes ≡ listing_p ++ drop 123 out)
 P-listed before after out bytes r l h x k y =
     let d = p_whole before after r h x in
@@ -138,7 +137,7 @@ P-listed before after out bytes r l h x k y =
     let z = y'.done sound (rw long k) in
     (z.0 ∙ ap (listed 0) long, z.1 ∙ ap₂ (λ (b : List ℕ) (n : ℕ). b ++ drop n out) same long)
 
-p_printed : (nodes after out bytes : List ℕ) (r : Printing) → 60 ≤ length nodes → 123 ≤ length out → Prints file_p nodes after out bytes r
+p_printed : (nodes after out bytes : List ℕ) (r : Extent) → 60 ≤ length nodes → 123 ≤ length out → Prints file_p nodes after out bytes r
     → (r ≡ printing 0 123) × (bytes ≡ listing_p ++ drop 123 out)
 p_printed nodes after out bytes r h k x =
     let e = drafts-held.p_held in

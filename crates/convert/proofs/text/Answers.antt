@@ -1,7 +1,7 @@
 -- `text` meets its contract: with this room the text always stands in the bytes.
+use Rattle.automaton.specs.Refusals.{extent_of}
 use borrow.Author.Rules.{rules}
 use Rattle.std.specs.Prelude.{Ok}
-use Rattle.front.specs.Answers.{printing_of}
 use Rattle.front.proofs.Room.{never-refused, text-within, text-exact}
 use Rattle.convert.proofs.text.Goals as goal
 
@@ -18,6 +18,6 @@ returns c =
     let p = c.printed in
     let done = rw c.unwrap.ensures at p.ensures in
     record {
-      exact = text-exact file nodes out (search rules) (search rules) p.new.nodes p.new.out (printing_of (Ok c.unwrap.result)) done;
-      within = text-within file nodes out (search rules) (search rules) p.new.nodes p.new.out (printing_of (Ok c.unwrap.result)) done;
+      exact = text-exact file nodes out (search rules) (search rules) p.new.nodes p.new.out (extent_of (Ok c.unwrap.result)) done;
+      within = text-within file nodes out (search rules) (search rules) p.new.nodes p.new.out (extent_of (Ok c.unwrap.result)) done;
     }
