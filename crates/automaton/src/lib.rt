@@ -96,7 +96,7 @@ pub struct Row {
     pub sources: [u8; SOURCE_PLACES],
 }
 
-// The automaton. Places of `arities` past `symbols`, and places of `rows` past `count`, are not used.
+// The automaton, as it crosses to C: arrays with their counts beside them. Places of `arities` past `symbols`, and places of `rows` past `count`, are not used.
 #[repr(C)]
 #[derive(Clone, Copy)]
 pub struct Automaton {

@@ -7,7 +7,7 @@ ghost use Rattle.writer.specs.Inside.{Put, RowThere, RowsThere};
 
 use automaton::{Automaton, Row};
 
-// The kinds of records, by their numbers in the file.
+// The kinds of records, by their numbers in the file; the enum of them is private to `automaton`.
 const HEAD: u8 = 1;
 
 const SYMBOL: u8 = 2;
