@@ -4,8 +4,8 @@
 ghost use Rattle.elimination.specs.Answers.{PartlyAnswered, WhollyAnswered};
 ghost use Rattle.front.specs.Answers.{Prints};
 
-use elimination::{Partly, Wholly};
 use automaton::Extent;
+use elimination::{Partly, Wholly};
 
 #[unsafe(no_mangle)]
 pub extern "C" fn door_convert_partly(file: &[u8], k: u32, nodes: &mut [u32]) -> Partly

@@ -55,7 +55,7 @@ impl From<Result<Stopped, Refused>> for Partly {
 
     fn from(r: Result<Stopped, Refused>) -> Partly {
         let refusal = r.into();
-        let Stopped { nodes, rows, list } = r.unwrap_or(report::nothing());
+        let Stopped { nodes, rows, list } = r.unwrap_or(report::NOTHING);
         Partly {
             refusal,
             nodes,

@@ -1,7 +1,6 @@
 // What a stop reports: its list, with what each row waits for.
-ghost use Rattle.std.specs.Prelude.{◌≡◌, ◌≤◌, length, replicate};
+ghost use Rattle.std.specs.Prelude.{◌≡◌, ◌≤◌, length};
 ghost use Rattle.theory.specs.RowLists.{list_places};
-ghost use Rattle.elimination.specs.Answers.{unused_place};
 ghost use Rattle.elimination.specs.Inside.{reported_row, reported_rows};
 
 use crate::{LIST_PLACES, ListRow, Stopped, maker};
@@ -14,23 +13,12 @@ const UNUSED: ListRow = ListRow {
     waits: 0,
 };
 
-// Every place unused.
-fn no_rows() -> [ListRow; LIST_PLACES]
-    ensures { result ≡ replicate list_places unused_place }
-{
-    [UNUSED; LIST_PLACES]
-}
-
 // A stop with no node and no row.
-pub fn nothing() -> Stopped
-    ensures { result ≡ record { nodes = 0; rows = 0; list = replicate list_places unused_place } }
-{
-    Stopped {
-        nodes: 0,
-        rows: 0,
-        list: no_rows(),
-    }
-}
+pub const NOTHING: Stopped = Stopped {
+    nodes: 0,
+    rows: 0,
+    list: [UNUSED; LIST_PLACES],
+};
 
 // A row with its waiting number.
 fn list_row(words: &[u32], row: NodeRow) -> ListRow
@@ -51,7 +39,7 @@ pub fn list_rows(words: &[u32], rows: &[NodeRow]) -> [ListRow; LIST_PLACES]
     ensures { result ≡ reported_rows words.now rows.now }
 {
     // By an index: a proof of `iter_mut().zip(rows)` would rest on names that Rattle may change.
-    let mut out = no_rows();
+    let mut out = NOTHING.list;
     for (i, &row) in rows.iter().enumerate() {
         out[i] = list_row(words, row);
     }

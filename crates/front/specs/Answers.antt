@@ -1,7 +1,6 @@
 -- What `printed` promises, of the file's bytes, the lent words and bytes before and after, and what it returns; and the room with which it is never short [9.12, 9.13].
-use Rattle.std.specs.Prelude.{ℕ, ◌+◌, ◌*◌, ◌<◌, ◌≡◌, List, ◌++◌, ◌⊎◌, length, drop, Result, Ok, Err}
-use Rattle.automaton.specs.declared.Refused.{Refused}
-use Rattle.automaton.specs.Refusals.{refusal, number_of}
+use Rattle.std.specs.Prelude.{ℕ, ◌+◌, ◌*◌, ◌<◌, ◌≡◌, List, ◌++◌, ◌⊎◌, length, drop}
+use Rattle.automaton.specs.Refusals.{refusal}
 use Rattle.automaton.specs.Checks.{Verdict, holds, fault, verdict}
 use Rattle.expressions.specs.Words.{node_width}
 use Rattle.listing.specs.Listing.{longest_line, longest_answer}

@@ -1,7 +1,6 @@
 -- What `list` promises, of what it is lent and answers.
-use Rattle.std.specs.Prelude.{ℕ, ◌≤◌, ◌<◌, ◌≡◌, List, ◌++◌, length, drop, Result, Ok, Err}
-use Rattle.automaton.specs.declared.Refused.{Refused}
-use Rattle.automaton.specs.Refusals.{refusal, number_of}
+use Rattle.std.specs.Prelude.{ℕ, ◌≤◌, ◌<◌, ◌≡◌, List, ◌++◌, length, drop}
+use Rattle.automaton.specs.Refusals.{refusal}
 use Rattle.expressions.specs.Words.{table_of}
 use Rattle.expressions.specs.Soundness.{Sound}
 use Rattle.automaton.specs.declared.Extent.{Extent}

@@ -1,11 +1,10 @@
 -- What `write` promises, of the value, the lent bytes before and after, and what it returns.
-use Rattle.std.specs.Prelude.{ℕ, ◌≤◌, ◌<◌, ◌≡◌, List, ◌++◌, length, drop, Result, Ok, Err}
+use Rattle.std.specs.Prelude.{ℕ, ◌≤◌, ◌<◌, ◌≡◌, List, ◌++◌, length, drop}
 use Rattle.automaton.specs.declared.Refusal.{Refusal}
-use Rattle.automaton.specs.declared.Refused.{Refused}
 use Rattle.automaton.specs.declared.Automaton.{Automaton}
 use Rattle.automaton.specs.Held.{Valid}
 use Rattle.automaton.specs.File.{file_of}
-use Rattle.automaton.specs.Refusals.{refusal, no_refusal, number_of}
+use Rattle.automaton.specs.Refusals.{refusal, no_refusal}
 use Rattle.automaton.specs.Answers.{held_by}
 use Rattle.automaton.specs.declared.Extent.{Extent}
 

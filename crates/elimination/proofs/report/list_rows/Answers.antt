@@ -2,9 +2,7 @@ use Rattle.elimination.proofs.Promises.{list-end, list-next, list-start}
 use Rattle.elimination.proofs.report.list_rows.Goals as goal
 
 pub loop-i-init : goal.loop-i-init
-loop-i-init c =
-    let a = c.args in
-    rw c.no_rows-out.ensures (list-start a.words.now a.rows.now)
+loop-i-init c = list-start c.args.words.now c.args.rows.now
 
 pub loop-i-preserved : goal.loop-i-preserved
 loop-i-preserved c =
