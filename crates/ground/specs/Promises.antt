@@ -5,6 +5,6 @@ use Rattle.std.specs.Prelude.{ℕ, ◌<◌, ◌≡◌}
 abbrev pub IsIndex : ℕ → ℕ → Type 0
 IsIndex byte r = (r ≡ byte) × (r < 256)
 
--- `wide`, `wide16`: the same number, in a wider type
+-- `Wide::wide`, of a byte and of a number of sixteen bits: the same number, in a wider type
 abbrev pub IsWidened : ℕ → ℕ → Type 0
 IsWidened number r = r ≡ number
