@@ -6,6 +6,7 @@ use Rattle.claims.proofs.Meaning.Slips.{no_slip}
 use Rattle.claims.proofs.Meaning.Conversions.{converts_faithfully}
 use Rattle.claims.proofs.Meaning.Printings.{prints_faithfully}
 use Rattle.claims.proofs.Outcomes.Uniqueness.{each_once}
+use Rattle.claims.proofs.Outcomes.Told.{each_told}
 use Rattle.claims.proofs.Outcomes.Kept.{each_kept}
 use Rattle.claims.proofs.Worked.Shams.{no_sham}
 use Rattle.claims.proofs.Worked.WorkedDrafts.{worked_drafts}
@@ -20,6 +21,7 @@ claims =
       converts_faithfully = converts_faithfully;
       prints_faithfully = prints_faithfully;
       each_once = each_once;
+      each_told = each_told;
       each_kept = each_kept;
       no_sham = no_sham;
       worked_drafts = worked_drafts;

@@ -1,5 +1,6 @@
 -- One outcome for each promise, and some outcome, whose numbers and buffers fit their types.
 pub mod Uniqueness
+pub mod Told
 pub mod TypedValues
 pub mod TypedTables
 pub mod TypedConversions

@@ -4,7 +4,7 @@ use Rattle.claims.specs.Meanings.{MeansWhatItShould}
 use Rattle.claims.specs.Slips.{NoSlip}
 use Rattle.claims.specs.Conversions.{ConvertsFaithfully}
 use Rattle.claims.specs.Printings.{PrintsFaithfully}
-use Rattle.claims.specs.Uniqueness.{EachOnce}
+use Rattle.claims.specs.Uniqueness.{EachOnce, EachTold}
 use Rattle.claims.specs.Kept.{EachKept}
 use Rattle.claims.specs.Shams.{NoSham}
 use Rattle.claims.specs.WorkedDrafts.{WorkedDrafts}
@@ -23,6 +23,8 @@ pub record Claims : Type 0 where
   pub prints_faithfully : PrintsFaithfully
   -- each promise leaves one outcome [12.3]
   pub each_once : EachOnce
+  -- and a result is known by the numbers that it stands for [12.3, 12.13]
+  pub each_told : EachTold
   -- and has one, in numbers of the types that the code declares [12.15]
   pub each_kept : EachKept
   -- no sham keeps them [12.4 to 12.8]

@@ -1,5 +1,5 @@
--- That no second outcome keeps a promise [12.3]. For each public function, over the very promise that its contract cites: two outcomes on one input are the same, in what is returned and in every word and byte of what was lent.
-use Rattle.std.specs.Prelude.{ℕ, ◌≡◌, List}
+-- That no second outcome keeps a promise [12.3]. For each public function, over the very promise that its contract cites: two outcomes on one input are the same, in every number that what is returned stands for and in every word and byte of what was lent.
+use Rattle.std.specs.Prelude.{ℕ, ◌≡◌, List, Result}
 use Rattle.sets.specs.declared.StateSet.{StateSet}
 use Rattle.sets.specs.Promises.{IsEmpty, IsOne, IsOfWord, IsUnion, SaysMember, SaysPast, IsWithout, IsCount}
 use Rattle.buffers.specs.Decimal.{decimal}
@@ -7,16 +7,21 @@ use Rattle.buffers.specs.Writing.{Puts}
 use Rattle.ground.specs.Promises.{IsIndex, IsWidened}
 use Rattle.buffers.specs.Promises.{CountsDigits, Clears}
 use Rattle.automaton.specs.declared.Automaton.{Automaton}
-use Rattle.automaton.specs.Answers.{read_answer}
+use Rattle.automaton.specs.declared.Refused.{Refused}
+use Rattle.automaton.specs.Refusals.{number_of, refusal_of, extent_of}
+use Rattle.automaton.specs.Answers.{read_answer, read_of}
 use Rattle.writer.specs.Answers.{Written}
-use Rattle.trees.specs.Promises.{RunPromise, ProductivePromise}
+use Rattle.trees.specs.declared.Reached.{Reached}
+use Rattle.trees.specs.Promises.{RunPromise, ProductivePromise, run_of, states_of}
 use Rattle.expressions.specs.declared.Shape.{Shape}
 use Rattle.expressions.specs.Nodes.{child_count}
 use Rattle.expressions.specs.Words.{node_in}
 use Rattle.expressions.specs.Making.{Makes}
-use Rattle.expressions.specs.Answers.{SoundAnswer, Measures}
+use Rattle.expressions.specs.Answers.{SoundAnswer, Measures, measured_of}
 use Rattle.listing.specs.Answers.{Lists}
-use Rattle.elimination.specs.Answers.{PartlyAnswered, WhollyAnswered}
+use Rattle.elimination.specs.declared.Stopped.{Stopped}
+use Rattle.elimination.specs.declared.Converted.{Converted}
+use Rattle.elimination.specs.Answers.{PartlyAnswered, WhollyAnswered, partly_answer, wholly_answer}
 use Rattle.front.specs.Answers.{Prints}
 
 -- a promise on what is returned has one outcome
@@ -42,7 +47,7 @@ pub record EachOnce : Type 0 where
   pub set_past : (self : StateSet) (count : ℕ) → Once (SaysPast self count)
   pub set_without : (self : StateSet) (state : ℕ) → Once (IsWithout self state)
   pub set_count : (self : StateSet) → Once (IsCount self)
-  -- helpers: `index`; `wide` and `wide16`; `zero`, `digits`, `put_bytes`, `put_number`
+  -- helpers: `index`; `Wide::wide`; `zero`, `digits`, `put_bytes`, `put_number`
   pub index : (byte : ℕ) → Once (IsIndex byte)
   pub wide : (number : ℕ) → Once (IsWidened number)
   pub clear : (before : List ℕ) → Once (Clears before)
@@ -67,3 +72,16 @@ pub record EachOnce : Type 0 where
   pub convert : (file before : List ℕ) → OnceBoth (WhollyAnswered file before)
   -- `printed`
   pub printed : (file nodes out : List ℕ) → OnceAll (λ after bytes r. Prints file nodes after out bytes r)
+
+-- A function that can refuse returns a result, and its promise is said of the numbers that the result stands for [12.13]. These tell it apart: two results that stand for the same numbers are the same, so that a promise with one outcome in numbers has one result.
+pub record EachTold : Type 0 where
+  pub reasons : (a b : Refused) → number_of a ≡ number_of b → a ≡ b
+  -- `make`; `write`, `list` and `printed`; `read`; `run`, `productive`; `measure`; `convert_partly`, `convert`
+  pub refusals : (r s : Result (Unit {0}) Refused) → refusal_of r ≡ refusal_of s → r ≡ s
+  pub extents : (r s : Result ℕ Refused) → extent_of r ≡ extent_of s → r ≡ s
+  pub readings : (r s : Result Automaton Refused) → read_of r ≡ read_of s → r ≡ s
+  pub runs : (r s : Result Reached Refused) → run_of r ≡ run_of s → r ≡ s
+  pub states : (r s : Result StateSet Refused) → states_of r ≡ states_of s → r ≡ s
+  pub measures : (r s : Result ℕ Refused) → measured_of r ≡ measured_of s → r ≡ s
+  pub stops : (r s : Result Stopped Refused) → partly_answer r ≡ partly_answer s → r ≡ s
+  pub conversions : (r s : Result Converted Refused) → wholly_answer r ≡ wholly_answer s → r ≡ s
