@@ -10,7 +10,7 @@ ghost use Rattle.automaton.specs.Answers.{read_answer, read_of};
 use reader::{Kind, Record};
 use sets::StateSet;
 
-// The limits of an automaton, as numbers to compare with and as numbers of places.
+// The limits of an automaton, as numbers to compare with and as numbers of places: by `as`, since no function of a trait is called in a constant.
 pub const MOST_STATES: u8 = sets::MOST_STATES;
 
 pub const MOST_SYMBOLS: u8 = 32;
@@ -61,6 +61,7 @@ impl<T: Drop> From<Result<T, Refused>> for Refusal {
     fn from(r: Result<T, Refused>) -> Refusal {
         match r {
             Ok(_) => Refusal { number: 0 },
+            // An enum gives its number by `as` alone.
             Err(reason) => Refusal {
                 number: reason as u8,
             },
@@ -87,7 +88,7 @@ impl From<Result<usize, Refused>> for Extent {
     }
 }
 
-// A row: symbol, target state, and the source states from the left; places past the symbol's arity are not used.
+// A row as it crosses to C: symbol, target state, and the source states from the left; places past the symbol's arity are not used.
 #[repr(C)]
 #[derive(Clone, Copy)]
 pub struct Row {
@@ -143,7 +144,7 @@ const NOTHING: Automaton = Automaton {
     rows: [UNUSED; ROW_PLACES],
 };
 
-// The automaton that a file holds, or the reason for which its checks refuse it: one pass over the bytes, and the value made once.
+// The automaton that a file holds, or the reason for which its checks refuse it: one pass over the bytes, in which the value grows record by record.
 pub fn read(file: &[u8]) -> Result<Automaton, Refused>
     ensures { read_of result ≡ read_answer file.now }
 {

@@ -13,7 +13,8 @@ pub fn zero(words: &mut [u32])
     words.fill(0);
 }
 
-// How many digits a number has. Small numbers are the most usual, and comparing is quicker for them than a logarithm.
+// How many digits a number has. Small numbers are the most usual, and comparing is quicker for them than a logarithm. From `u32` to `usize` there is
+// no `From`.
 pub fn digits(n: u64) -> usize
     ensures { CountsDigits n result }
 {
@@ -28,7 +29,7 @@ pub fn digits(n: u64) -> usize
     }
 }
 
-// These bytes from this place on, where they fit; and the place after them.
+// These bytes from this place on, where they fit (bytes and a place side by side, as C passes them); and the place after them.
 pub fn put_bytes(out: &mut [u8], at: usize, bytes: &[u8]) -> usize
     ensures { Puts out.old at bytes.now out.new result }
 {
@@ -58,7 +59,7 @@ fn end_within(room: usize, at: usize, count: usize) -> Option<usize>
     (count <= rest).then(|| at + count)
 }
 
-// A number's digits into a part that has just their room, from the last to the first.
+// A number's digits into a part that has just their room, from the last to the first. By an index: after `iter_mut().rev()` nothing is known of the bytes.
 fn put_digits(part: &mut [u8], n: u64)
     requires { length part.old ≡ length (decimal n) }
     ensures { part.new ≡ decimal n }
@@ -70,7 +71,7 @@ fn put_digits(part: &mut [u8], n: u64)
     }
 }
 
-// The last digit of a number.
+// The last digit of a number, which is below 10, so that `as` cuts nothing off.
 fn last_digit(n: u64) -> u8
     ensures { result ≡ last_digit n }
 {

@@ -1,6 +1,6 @@
 // Doors in C's calling convention to the public functions on files, trees and tables, for tests and benchmarks; `hatches` has those to sets and
-// helpers, `bridges` those to conversions. Each calls the function behind it and promises the same, by the name of the promise that the claims
-// cite: so a function whose `ensures` said less than that promise would leave its door unproved.
+// helpers, `bridges` those to conversions. Each calls the function behind it, makes what C gets of its result, and promises the same, by the name of the
+// promise that the claims cite: so a function whose `ensures` said less than that promise would leave its door unproved.
 #![tactic(auto)]
 
 ghost use Rattle.std.specs.Prelude.{◌≡◌};

@@ -31,6 +31,7 @@ pub fn printed(file: &[u8], nodes: &mut [u32], out: &mut [u8]) -> Result<usize, 
             };
             Ok(length)
         }
+        // One in the other, since an arm for `Err(Refused::Short)` would not tell the next that the reason is another.
         Err(reason) => match reason {
             Refused::Short => Err(reason),
             _ => text::refuse(reason, nodes, out),

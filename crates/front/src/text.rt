@@ -9,7 +9,7 @@ use automaton::Refused;
 // The bytes of the line "refused N", with its newline.
 const LINE: usize = 10;
 
-// The line "refused N", from the first byte on.
+// The line "refused N", from the first byte on. An enum gives its number by `as` alone.
 fn put_refused(out: &mut [u8], reason: Refused)
     requires { 10 ≤ length out.old }
     ensures { out.new ≡ refused_line (number_of reason) ++ drop 10 out.old }

@@ -1,4 +1,5 @@
-// The ground under every room: numbers made wide. The laws of lists, of tests and of decisions stand in proofs/.
+// The ground: numbers made wide. The laws of lists, of tests and of decisions stand in proofs/. The claims name these functions; `usize::from` and
+// `u32::from` of the library do the same.
 #![tactic(auto)]
 
 ghost use Rattle.std.specs.Prelude.{ℕ};
@@ -21,6 +22,7 @@ pub trait Wide {
         ensures { IsWidened (number self) result };
 }
 
+// The two bodies are spelled apart, so that a wrong version of one is not one of the other.
 impl Wide for u8 {
     ghost number = { λ byte. byte };
 

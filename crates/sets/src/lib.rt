@@ -11,6 +11,7 @@ pub const MOST_STATES: u8 = 16;
 pub struct StateSet(pub u16);
 
 impl StateSet {
+    // The requirements ask for both, a constant and a function (12.10).
     pub const EMPTY: StateSet = StateSet(0);
 
     // The empty set.
@@ -27,7 +28,7 @@ impl StateSet {
         StateSet(1u16.unbounded_shl(state))
     }
 
-    // The states that a word has as a set: its low sixteen bits.
+    // The states that a word has as a set: its low sixteen bits; by a mask and `as`, since the others are meant to go.
     pub fn of_word(word: u32) -> Self
         ensures { IsOfWord word result }
     {

@@ -13,7 +13,8 @@ use std::array;
 #[derive(Drop)]
 pub struct Columns {
     symbols: [u16; ROW_PLACES],
-    // The sets that the rows need at each child place: empty where the place is absent.
+    // The sets that the rows need at each child place, empty where the place is absent: a field each, as the definitions name them. Sets are plain
+    // numbers here, since `scan` goes over their bits.
     firsts: [u16; ROW_PLACES],
     seconds: [u16; ROW_PLACES],
     thirds: [u16; ROW_PLACES],
@@ -23,6 +24,7 @@ pub struct Columns {
     leaves: [u16; SYMBOL_PLACES],
 }
 
+// That its sources are states is a clause of these two and of `enter`: a type for it would be made of each row and taken apart at once.
 // The set that a row with these sources, of which so many count, needs at a child place: of its source there; empty where the place is absent.
 fn needed(sources: [u8; SOURCE_PLACES], arity: u8, place: usize) -> u16
     requires place_lt_most_arity { place < most_arity }

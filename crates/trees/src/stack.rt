@@ -23,6 +23,7 @@ impl<'a, const PLACES: usize> Model for Stack<'a, PLACES> {
 }
 
 impl<'a, const PLACES: usize> Stack<'a, PLACES> {
+    // That there are no more places than words of a tree is a clause here and in `climb`: no type carries a bound on a const parameter.
     pub fn new(places: &'a mut [u16; PLACES]) -> Self
         requires { PLACES ≤ most_words }
         ensures { result ≡ [] }
@@ -38,6 +39,7 @@ impl<'a, const PLACES: usize> Stack<'a, PLACES> {
     {
         let base = self.depth.checked_sub(count)?;
         self.depth = base;
+        // Of three sets the second lies at 1, of fewer at 0.
         let last = count - 1;
         let first = self.places[base + last];
         let second = self.places[base + last / 2];

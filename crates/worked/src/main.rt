@@ -1,4 +1,5 @@
-// Every worked draft (docs/REQUIREMENTS.md, section 10) through the public functions, and the cases beyond them: one line each. What it must write was worked out apart from this program.
+// Every worked draft (docs/REQUIREMENTS.md, section 10) through the public functions, and the cases beyond them: one line each. What it must write was worked out apart from this program. Results are
+// taken as C gets them, since a line has the zeros of a refusal too.
 #![tactic(auto)]
 
 mod cases;

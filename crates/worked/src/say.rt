@@ -11,6 +11,7 @@ pub const LENT: u32 = 1234567;
 
 pub const LENT_BYTE: u8 = 255;
 
+// By `as`, since no function of a trait is called in a constant; and so below, where there is no `From`.
 const STATES: u32 = sets::MOST_STATES as u32;
 
 // What can be a piece of a line.

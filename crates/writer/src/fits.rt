@@ -6,7 +6,8 @@ ghost use Rattle.writer.specs.Inside.{RowSized, RowsSized, FileSized};
 
 use automaton::{Automaton, MOST_ARITY, MOST_ROWS, MOST_STATES, MOST_SYMBOLS, Row};
 
-// The length of a row's record, where a file can hold the row.
+// The length of a row's record, where a file can hold the row. That the arities are at most 3 is a clause here and below: a type for it would be
+// made once and taken apart at once.
 fn row_size(row: &Row, states: u8, arities: &[u8]) -> Option<usize>
     requires { All (λ a. a ≤ most_arity) arities.now }
     ensures { RowSized states arities.now row.now result }

@@ -7,7 +7,7 @@ ghost use Rattle.writer.specs.Inside.{Put, RowThere, RowsThere};
 
 use automaton::{Automaton, Row};
 
-// The kinds of records, by their numbers in the file; the enum of them is private to `automaton`.
+// The kinds of records, by their numbers in the file. The reader's enum of them is no plainer here: each would be cast where it is put.
 const HEAD: u8 = 1;
 
 const SYMBOL: u8 = 2;
@@ -16,7 +16,7 @@ const ROW: u8 = 3;
 
 const END: u8 = 9;
 
-// A record: its length, its kind, its payload.
+// A record: its length, which one byte holds, so that `as` cuts nothing off; its kind; its payload.
 fn put_record(out: &mut [u8], kind: u8, payload: &[u8]) -> usize
     requires short { length payload.now < 256 }
     requires room { 4 + length payload.now ≤ length out.old }
