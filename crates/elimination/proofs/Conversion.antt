@@ -1,7 +1,7 @@
 -- The parts of a conversion one after the other: the start, the states, the join.
 use Prim.Native.Nat.{ℕ, suc, ◌+◌, ◌<◌, ◌≤◌}
 use native.Mathlib.Omega.{arith}
-use mathlib.Core.Path.{◌≡◌, ◌∙◌, ap, ap₂, subst}
+use mathlib.Core.Path.{◌≡◌, ◌∙◌, ap, subst}
 use mathlib.Core.List.{List}
 use lib.ListN.{length}
 use Rattle.std.specs.Prelude.{Result, Ok, Err}
@@ -25,7 +25,7 @@ use Rattle.elimination.specs.declared.rows.Staged.{Staged}
 use Rattle.elimination.specs.Inside.{NodeAndRows, NoRoom, HasTable, HasStage, GivesNode, GivesStage, NodeOn, StageOn, StagesOn, NodeAndStage, LowRows, stage_of, rules_stage, picked_made}
 use Rattle.elimination.proofs.Room.{less-room}
 use Rattle.elimination.proofs.Joining.{picked-every}
-use Rattle.elimination.proofs.Starting.{finals-same, with_finals}
+use Rattle.elimination.proofs.Starting.{with_finals}
 
 -- ---- the table and the list of the start
 
@@ -57,13 +57,13 @@ module _ (value : Automaton) (handed : Handed value) (n : ℕ) (en : n ≡ (held
       rules-room = let a = handed.valid.few_rules in omega (arith, ap length rules-listed, rule_rows-count (suc (held_by value).states) (held_by value).rules)
 
       pub begin-gives : (list : List NodeRow) → list ≡ with_finals staged.list value.finals.0 n → HasStage before (start (held_by value)) w2 (record { count = staged.count; list = list })
-      unfolding start start_table final_states
+      unfolding start start_table final_states held_by
       begin-gives list el =
           record {
             has = (put (Ok staged) x).has;
             listed =
                 el ∙ ap (λ (rows : List NodeRow). with_finals rows value.finals.0 n) rules-listed
-                ∙ ap₂ (λ (a k : ℕ). with_finals (rule_rows (suc (held_by value).states) (held_by value).rules) a k) (finals-same value handed) en;
+                ∙ ap (λ (k : ℕ). with_finals (rule_rows (suc (held_by value).states) (held_by value).rules) value.finals.0 k) en;
           }
 
 -- ---- the states

@@ -9,31 +9,35 @@ put_holes-requires c = let few = c.args.given.now.handed.valid.few_states in ome
 pub returns-in_err-holes : goal.returns-in_err-holes
 returns-in_err-holes c =
     let a = c.args in
+    let given = a.given.now in
     let w = c.states-n in
     let p = err_from_is_err_and c.from_residual.result c.from_residual.ensures.1 in
-    rw (p.1, p.2) (begin-full a.given.now.value a.given.now.handed w.result w.ensures a.words.now c.put_holes.new.words c.in_err-holes.field-0.0 c.in_err-holes.ensures)
+    rw (p.1, p.2) (begin-full given.value given.handed w.result w.ensures a.words.now c.put_holes.new.words c.in_err-holes.field-0.0 c.in_err-holes.ensures)
 
 pub returns-in_err-staged : goal.returns-in_err-staged
 returns-in_err-staged c =
     let a = c.args in
+    let given = a.given.now in
     let w = c.states-n in
     let f = c.from_residual-in_err-staged in
     let p = err_from_is_err_and f.result f.ensures.1 in
     rw (p.1, p.2)
-    (rules-full a.given.now.value a.given.now.handed w.result w.ensures a.words.now c.put_holes.new.words c.in_ok-holes.holes c.in_ok-holes.ensures c.put_rules.new.words c.in_err-staged.field-0.0 c.in_err-staged.ensures)
+    (rules-full given.value given.handed w.result w.ensures a.words.now c.put_holes.new.words c.in_ok-holes.holes c.in_ok-holes.ensures c.put_rules.new.words c.in_err-staged.field-0.0 c.in_err-staged.ensures)
 
 pub put_finals-requires : goal.put_finals-requires
 put_finals-requires c =
     let a = c.args in
+    let given = a.given.now in
     let w = c.states-n in
-    let few = c.args.given.now.handed.valid.few_states in
+    let few = given.handed.valid.few_states in
     record {
       n_le_state_width = omega arith;
-      state_width_len_bound = rules-room a.given.now.value a.given.now.handed w.result w.ensures a.words.now c.put_holes.new.words c.in_ok-holes.holes c.in_ok-holes.ensures c.put_rules.new.words c.in_ok-staged.staged c.in_ok-staged.ensures;
+      state_width_len_bound = rules-room given.value given.handed w.result w.ensures a.words.now c.put_holes.new.words c.in_ok-holes.holes c.in_ok-holes.ensures c.put_rules.new.words c.in_ok-staged.staged c.in_ok-staged.ensures;
     }
 
 pub returns : goal.returns
 returns c =
     let a = c.args in
+    let given = a.given.now in
     let w = c.states-n in
-    begin-gives a.given.now.value a.given.now.handed w.result w.ensures a.words.now c.put_holes.new.words c.in_ok-holes.holes c.in_ok-holes.ensures c.put_rules.new.words c.in_ok-staged.staged c.in_ok-staged.ensures c.put_finals.new.list c.put_finals.ensures
+    begin-gives given.value given.handed w.result w.ensures a.words.now c.put_holes.new.words c.in_ok-holes.holes c.in_ok-holes.ensures c.put_rules.new.words c.in_ok-staged.staged c.in_ok-staged.ensures c.put_finals.new.list c.put_finals.ensures
