@@ -1,4 +1,3 @@
-use native.Mathlib.Omega.{arith}
 use Rattle.std.proofs.lemmas.Result.{err_from_is_err_and}
 use Rattle.automaton.specs.Answers.{held_by}
 use Rattle.elimination.proofs.Conversion.{partly-full, partly-gives}
@@ -10,11 +9,6 @@ returns-in_err-begun c =
     let given = a.given.now in
     let p = err_from_is_err_and c.from_residual.result c.from_residual.ensures.1 in
     rw (p.1, p.2) (partly-full (held_by given.value) given.handed.valid a.words.now c.begin.new.words a.k c.requires c.in_err-begun.field-0.0 c.in_err-begun.ensures)
-
-pub take_first-requires : goal.take_first-requires
-take_first-requires c =
-    let n = c.args.given.now.handed.valid.few_states in
-    omega (arith, c.requires)
 
 pub returns : goal.returns
 returns c =

@@ -3,9 +3,6 @@ use Rattle.std.proofs.lemmas.Result.{err_from_is_err_and}
 use Rattle.elimination.proofs.Conversion.{begin-full, begin-gives, rules-full, rules-room}
 use Rattle.elimination.proofs.start.begin.Goals as goal
 
-pub put_holes-requires : goal.put_holes-requires
-put_holes-requires c = let few = c.args.given.now.handed.valid.few_states in omega arith
-
 pub returns-in_err-holes : goal.returns-in_err-holes
 returns-in_err-holes c =
     let a = c.args in
@@ -29,7 +26,6 @@ put_finals-requires c =
     let a = c.args in
     let given = a.given.now in
     let w = c.states-n in
-    let few = given.handed.valid.few_states in
     record {
       n_le_state_width = omega arith;
       state_width_len_bound = rules-room given.value given.handed w.result w.ensures a.words.now c.put_holes.new.words c.in_ok-holes.holes c.in_ok-holes.ensures c.put_rules.new.words c.in_ok-staged.staged c.in_ok-staged.ensures;
