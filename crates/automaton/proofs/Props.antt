@@ -1,15 +1,11 @@
 -- `Handed` is a proposition: it has one proof at most, so a struct may keep it as a ghost field.
 use Prim.Native.Nat.{ℕ}
-use mathlib.Core.List.{List, [], ◌∷◌}
+use mathlib.Core.List.{List}
 use denote.Struct.Props.{props}
-use Rattle.ground.specs.Lists.{All}
+use Rattle.ground.proofs.Lists.{all-prop}
 use Rattle.automaton.specs.declared.Automaton.{Automaton}
 use Rattle.automaton.specs.Held.{Rule, Held, ValidRule, Valid}
 use Rattle.automaton.specs.Handed.{Handed}
-
-all-prop : {A : Type 0} (P : A → Type 0) → ((x : A) → IsProp (P x)) → (xs : List A) → IsProp (All P xs)
-all-prop P h [] = Prim.hlevel props
-all-prop P h (x ∷ xs) = let rest = all-prop P h xs in Prim.hlevel (props, h, rest)
 
 rule-prop : (states : ℕ) (arities : List ℕ) (rule : Rule) → IsProp (ValidRule states arities rule)
 rule-prop states arities rule = Prim.hlevel (props, all-prop)
