@@ -3,3 +3,4 @@ pub mod Files
 pub mod Values
 pub mod Handing
 pub mod Refusing
+pub mod Props

@@ -1,4 +1,4 @@
--- What `read` hands to the rooms above, for the contracts of their private functions: a value that a file holds.
+-- What `read` hands to the rooms above, for their private functions: a value that a file holds.
 use Rattle.std.specs.Prelude.{◌≡◌}
 use Rattle.automaton.specs.declared.Automaton.{Automaton}
 use Rattle.automaton.specs.Held.{Valid}

@@ -1,7 +1,7 @@
 -- The parts of a conversion one after the other: the start, the states, the join.
 use Prim.Native.Nat.{ℕ, suc, ◌+◌, ◌<◌, ◌≤◌}
 use native.Mathlib.Omega.{arith}
-use mathlib.Core.Path.{◌≡◌, ◌∙◌, ap, ap₂, subst}
+use mathlib.Core.Path.{◌≡◌, ◌∙◌, ap, subst}
 use mathlib.Core.List.{List}
 use lib.ListN.{length}
 use Rattle.std.specs.Prelude.{Result, Ok, Err}
@@ -25,25 +25,22 @@ use Rattle.elimination.specs.declared.rows.Staged.{Staged}
 use Rattle.elimination.specs.Inside.{NodeAndRows, NoRoom, HasTable, HasStage, GivesNode, GivesStage, NodeOn, StageOn, StagesOn, NodeAndStage, LowRows, stage_of, rules_stage, picked_made}
 use Rattle.elimination.proofs.Room.{less-room}
 use Rattle.elimination.proofs.Joining.{picked-every}
-use Rattle.elimination.proofs.Starting.{states-same, finals-same, with_finals}
+use Rattle.elimination.proofs.Starting.{with_finals}
 
 -- ---- the table and the list of the start
 
-module _ (value : Automaton) (handed : Handed value) (n : ℕ) (en : n ≡ value.states) (before w1 : List ℕ) where
-  held-states : n ≡ (held_by value).states
-  held-states = en ∙ states-same value handed
-
+module _ (value : Automaton) (handed : Handed value) (n : ℕ) (en : n ≡ (held_by value).states) (before w1 : List ℕ) where
   pub begin-full : (reason : Refused) → NoRoom before (holes_table n) reason → NoRoom before (start (held_by value)).table reason
   unfolding start start_table
   begin-full reason none =
-      less-room (rules-grow (holes_table (held_by value).states) (held_by value).rules) (subst (λ (m : ℕ). NoRoom before (holes_table m) reason) held-states none)
+      less-room (rules-grow (holes_table (held_by value).states) (held_by value).rules) (subst (λ (m : ℕ). NoRoom before (holes_table m) reason) en none)
 
   module _ (holes : ℕ) (g : HasTable before (holes_table n) w1 holes) (w2 : List ℕ) where
     module _ (r : Result Staged Refused) (x : StageOn (λ table. (held_by value).states < length table) (rules_stage (held_by value).rules) w1 holes w2 r) where
       put : GivesStage before (rules_stage (held_by value).rules (holes_table (held_by value).states)) w2 r
       put =
           let c = (holes-table (held_by value).states handed.valid.few_states).count in
-          x before (holes_table (held_by value).states) (subst (λ (m : ℕ). HasTable before (holes_table m) w1 holes) held-states g) (omega arith)
+          x before (holes_table (held_by value).states) (subst (λ (m : ℕ). HasTable before (holes_table m) w1 holes) en g) (omega arith)
 
     pub rules-full : (reason : Refused) → StageOn (λ table. (held_by value).states < length table) (rules_stage (held_by value).rules) w1 holes w2 (Err reason)
         → NoRoom before (start (held_by value)).table reason
@@ -60,13 +57,13 @@ module _ (value : Automaton) (handed : Handed value) (n : ℕ) (en : n ≡ value
       rules-room = let a = handed.valid.few_rules in omega (arith, ap length rules-listed, rule_rows-count (suc (held_by value).states) (held_by value).rules)
 
       pub begin-gives : (list : List NodeRow) → list ≡ with_finals staged.list value.finals.0 n → HasStage before (start (held_by value)) w2 (record { count = staged.count; list = list })
-      unfolding start start_table final_states
+      unfolding start start_table final_states held_by
       begin-gives list el =
           record {
             has = (put (Ok staged) x).has;
             listed =
                 el ∙ ap (λ (rows : List NodeRow). with_finals rows value.finals.0 n) rules-listed
-                ∙ ap₂ (λ (a k : ℕ). with_finals (rule_rows (suc (held_by value).states) (held_by value).rules) a k) (finals-same value handed) held-states;
+                ∙ ap (λ (k : ℕ). with_finals (rule_rows (suc (held_by value).states) (held_by value).rules) value.finals.0 k) en;
           }
 
 -- ---- the states

@@ -96,14 +96,6 @@ module _ (value : Automaton) (handed : Handed value) where
   unfolding placed
   rules-count = ap (λ (v : Automaton). v.count) handed.is
 
-  pub states-same : value.states ≡ (held_by value).states
-  unfolding placed
-  states-same = ap (λ (v : Automaton). v.states) handed.is
-
-  pub finals-same : value.finals.0 ≡ (held_by value).finals
-  unfolding placed
-  finals-same = ap (λ (v : Automaton). v.finals.0) handed.is
-
   rows_same : value.rows ≡ filled 64 unused_row (map placed_row (held_by value).rules)
   unfolding placed
   rows_same = ap (λ (v : Automaton). v.rows) handed.is

@@ -3,16 +3,16 @@
 
 ghost use Rattle.std.specs.Prelude.{◌≡◌};
 ghost use Rattle.automaton.specs.Answers.{held_by};
-ghost use Rattle.automaton.specs.Handed.{Handed};
 ghost use Rattle.elimination.specs.Answers.{PartlyAnswered, WhollyAnswered, partly_answer, wholly_answer};
 ghost use Rattle.elimination.specs.Inside.{PartlyOf, WhollyOf};
 
+use crate::given::Given;
 use crate::maker::Got;
 use crate::rows::Staged;
-use automaton::{Automaton, Refusal, Refused};
-use ground::Wide;
+use automaton::{Refusal, Refused};
 
 mod course;
+mod given;
 mod maker;
 mod report;
 mod rows;
@@ -98,16 +98,14 @@ impl From<Result<Converted, Refused>> for Wholly {
     }
 }
 
-// The automaton after its first k states are taken out. That a file holds the value stays a clause here and in the modules: `Handed` goes by
-// recursion, and a ghost field takes no such fact as it is.
-fn partly_of(nodes: &mut [u32], value: Automaton, k: u32) -> Result<Stopped, Refused>
-    requires { Handed value }
-    ensures { PartlyOf (held_by value) k nodes.old nodes.new (partly_answer result) }
+// The automaton after its first k states are taken out.
+fn partly_of(nodes: &mut [u32], given: &Given, k: u32) -> Result<Stopped, Refused>
+    ensures { PartlyOf (held_by given.now.value) k nodes.old nodes.new (partly_answer result) }
 {
-    if value.states.wide() < k {
+    if given.states() < k {
         return Err(Refused::TooFar);
     }
-    let staged = course::partly(nodes, &value, k);
+    let staged = course::partly(nodes, given, k);
     if staged.is_err() {
         buffers::zero(nodes);
     }
@@ -124,15 +122,14 @@ fn partly_of(nodes: &mut [u32], value: Automaton, k: u32) -> Result<Stopped, Ref
 pub fn convert_partly(file: &[u8], k: u32, nodes: &mut [u32]) -> Result<Stopped, Refused>
     ensures { PartlyAnswered file.now k nodes.old nodes.new (partly_answer result) }
 {
-    partly_of(nodes, automaton::read(file)?, k)
+    partly_of(nodes, &Given::read(file)?, k)
 }
 
 // The expression of the automaton.
-fn wholly_of(nodes: &mut [u32], value: Automaton) -> Result<Converted, Refused>
-    requires { Handed value }
-    ensures { WhollyOf (held_by value) nodes.old nodes.new (wholly_answer result) }
+fn wholly_of(nodes: &mut [u32], given: &Given) -> Result<Converted, Refused>
+    ensures { WhollyOf (held_by given.now.value) nodes.old nodes.new (wholly_answer result) }
 {
-    let made = course::wholly(nodes, &value);
+    let made = course::wholly(nodes, given);
     if made.is_err() {
         buffers::zero(nodes);
     }
@@ -147,5 +144,5 @@ fn wholly_of(nodes: &mut [u32], value: Automaton) -> Result<Converted, Refused>
 pub fn convert(file: &[u8], nodes: &mut [u32]) -> Result<Converted, Refused>
     ensures { WhollyAnswered file.now nodes.old nodes.new (wholly_answer result) }
 {
-    wholly_of(nodes, automaton::read(file)?)
+    wholly_of(nodes, &Given::read(file)?)
 }

@@ -1,18 +1,18 @@
 // The start of a conversion: the empty node, the holes, the nodes of the file's rows, and the list.
 ghost use Rattle.std.specs.Prelude.{◌≡◌, ◌++◌, map, suc, ◌+◌, ◌<◌, ◌≤◌, length, get_or};
 ghost use Rattle.sets.specs.Members.{has, state_width};
-ghost use Rattle.automaton.specs.Answers.{held_by, placed_row};
-ghost use Rattle.automaton.specs.Handed.{Handed};
+ghost use Rattle.automaton.specs.Answers.{held_by};
 ghost use Rattle.automaton.specs.Held.{most_symbols, most_arity};
 ghost use Rattle.ground.specs.Lists.{those};
 ghost use Rattle.theory.specs.RowLists.{ascending, list_places};
 ghost use Rattle.theory.specs.Stages.{holes_table, final_node_row, start};
 ghost use Rattle.elimination.specs.Inside.{GivesTable, GivesStage, StageOn, child_of, row_shape, rules_stage};
 
+use crate::given::Given;
 use crate::maker::{EMPTY, HOLE, SYMBOL};
 use crate::rows::{Rows, Staged};
 use crate::{maker, rows};
-use automaton::{Automaton, Refused, Row, SYMBOL_PLACES};
+use automaton::{Refused, Row, SYMBOL_PLACES};
 use expressions::{ARITY_STEP, Shape};
 use ground::Wide;
 use sets::StateSet;
@@ -57,29 +57,20 @@ fn rule_shape(rule: Row, arities: &[u8; SYMBOL_PLACES]) -> Shape
     }
 }
 
-// The rules of an automaton.
-fn rules(value: &Automaton) -> &[Row]
-    requires { Handed value.now }
-    ensures { result.now ≡ map placed_row (held_by value.now).rules }
-{
-    &value.rows[..ground::index(value.count)]
-}
-
 // The nodes of the rules, and their rows in the list.
-fn put_rules(words: &mut [u32], begun: u32, value: &Automaton) -> Result<Staged, Refused>
-    requires { Handed value.now }
-    ensures { StageOn (λ table. (held_by value.now).states < length table) (rules_stage (held_by value.now).rules) words.old begun words.new result }
+fn put_rules(words: &mut [u32], begun: u32, given: &Given) -> Result<Staged, Refused>
+    ensures { StageOn (λ table. (held_by given.now.value).states < length table) (rules_stage (held_by given.now.value).rules) words.old begun words.new result }
 {
     let mut count = begun;
     let mut list = Rows::new();
-    for &rule in rules(value) {
+    for &rule in given.rules() {
         let Shape {
             kind,
             label,
             first,
             second,
             third,
-        } = rule_shape(rule, &value.arities);
+        } = rule_shape(rule, &given.value.arities);
         let got = maker::new_node(words, count, kind, label, first, second, third)?;
         count = got.count;
         list.push(rows::row(got.node, rule.target));
@@ -101,13 +92,12 @@ fn put_finals(list: &mut Rows, n: u32, finals: StateSet)
 }
 
 // The table and the list of the start.
-pub fn begin(words: &mut [u32], value: &Automaton) -> Result<Staged, Refused>
-    requires { Handed value.now }
-    ensures { GivesStage words.old (start (held_by value.now)) words.new result }
+pub fn begin(words: &mut [u32], given: &Given) -> Result<Staged, Refused>
+    ensures { GivesStage words.old (start (held_by given.now.value)) words.new result }
 {
-    let n = value.states.wide();
+    let n = given.states();
     let holes = put_holes(words, n)?;
-    let mut staged = put_rules(words, holes, value)?;
-    put_finals(&mut staged.list, n, value.finals);
+    let mut staged = put_rules(words, holes, given)?;
+    put_finals(&mut staged.list, n, given.value.finals);
     Ok(staged)
 }

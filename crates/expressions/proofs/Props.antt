@@ -1,8 +1,8 @@
 -- Soundness is a proposition: it has one proof at most, so a struct may keep it as a ghost field.
 use Prim.Native.Nat.{ℕ}
-use mathlib.Core.List.{List, [], ◌∷◌}
+use mathlib.Core.List.{List}
 use denote.Struct.Props.{props}
-use Rattle.ground.specs.Lists.{All}
+use Rattle.ground.proofs.Lists.{all-prop}
 use Rattle.expressions.specs.declared.Shape.{Shape}
 use Rattle.expressions.specs.declared.Node.{Node}
 use Rattle.expressions.specs.Nodes.{Kind, emptyᴷ, holeᴷ, symbolᴷ, altᴷ, catᴷ, iterᴷ, otherᴷ, Table}
@@ -16,10 +16,6 @@ labelled-prop altᴷ label = Prim.hlevel props
 labelled-prop catᴷ label = Prim.hlevel props
 labelled-prop iterᴷ label = Prim.hlevel props
 labelled-prop otherᴷ label = Prim.hlevel props
-
-all-prop : {A : Type 0} (P : A → Type 0) → ((x : A) → IsProp (P x)) → (xs : List A) → IsProp (All P xs)
-all-prop P h [] = Prim.hlevel props
-all-prop P h (x ∷ xs) = let rest = all-prop P h xs in Prim.hlevel (props, h, rest)
 
 fits-prop : (number : ℕ) (shape : Shape) → IsProp (Fits number shape)
 fits-prop number shape = Prim.hlevel (props, labelled-prop, all-prop)

@@ -9,6 +9,7 @@ use mathlib.Core.List.Memᴰ
 use mathlib.Core.List.{List, [], ◌∷◌, ◌++◌, map, Memᴰ}
 use lib.ListN.{length, get_or, replicate, length-append, length-take, length-replicate, get_or-replicate, get_or-append, get_or-eq_default}
 use lib.Dec.{T}
+use denote.Struct.Props.{props}
 use lib.Seq.{get_or-take, get_or-append-add}
 use Rattle.ground.specs.Lists.{All, filled, firsts, any_of, any_below, those}
 use Rattle.ground.proofs.Truth.{or_left, or_right}
@@ -77,6 +78,11 @@ pub all-at : {A : Type 0} (P : A → Type 0) (xs : List A) → All P xs → (i :
 all-at P [] a i d h = absurd (omega arith)
 all-at P (x ∷ xs) a zero d h = a.0
 all-at P (x ∷ xs) a (suc i) d h = all-at P xs a.1 i d (omega arith)
+
+-- a fact that has one proof at most of each element has one at most of them all
+pub all-prop : {A : Type 0} (P : A → Type 0) → ((x : A) → IsProp (P x)) → (xs : List A) → IsProp (All P xs)
+all-prop P h [] = Prim.hlevel props
+all-prop P h (x ∷ xs) = let rest = all-prop P h xs in Prim.hlevel (props, h, rest)
 
 pub all_map : {A : Type 0} {P Q : A → Type 0} (xs : List A) → ((x : A) → P x → Q x) → All P xs → All Q xs
 all_map [] f h = tt

@@ -2,7 +2,6 @@ use mathlib.Core.Path.{refl}
 use Rattle.std.specs.Prelude.{Ok}
 use Rattle.automaton.specs.Answers.{read_of}
 use Rattle.std.proofs.lemmas.Result.{err_from_is_err_and}
-use Rattle.automaton.proofs.Handing.{result-held}
 use Rattle.automaton.proofs.Refusing.{number-some}
 use Rattle.elimination.specs.Answers.{partly_answer}
 use Rattle.elimination.proofs.Promises.{partly-held, partly-refused}
@@ -14,10 +13,7 @@ returns-in_err-read c =
     let p = err_from_is_err_and c.from_residual.result c.from_residual.ensures.1 in
     rw (p.1, p.2) (partly-refused a.file.now _ c.in_err-read.ensures a.k a.nodes.now (number-some c.in_err-read.field-0.0))
 
-pub partly_of-requires : goal.partly_of-requires
-partly_of-requires c = (result-held c.args.file.now c.in_ok-read.field-0 c.in_ok-read.ensures).handed
-
 pub returns : goal.returns
 returns c =
     let a = c.args in
-    partly-held a.file.now (read_of (Ok c.in_ok-read.field-0)) c.in_ok-read.ensures a.k a.nodes.now c.partly_of.new.nodes (partly_answer c.partly_of.result) refl c.partly_of.ensures
+    partly-held a.file.now (read_of (Ok c.in_ok-read.field-0.value)) c.in_ok-read.ensures a.k a.nodes.now c.partly_of.new.nodes (partly_answer c.partly_of.result) refl c.partly_of.ensures

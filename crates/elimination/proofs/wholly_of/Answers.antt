@@ -15,7 +15,7 @@ returns-in_err-count c =
     let x = rw f.was at c.wholly-made.ensures in
     rw (p.1, p.2)
     (elim c.if-is_err.branch [
-      | then-is_err w ↦ rw (w.nodes-is, w.zero.ensures) (wholly-short (held_by a.value) a.nodes.now f.field-0.0 x c.wholly-made.new.words c.wholly-made.auto.words)
+      | then-is_err w ↦ rw (w.nodes-is, w.zero.ensures) (wholly-short (held_by a.given.now.value) a.nodes.now f.field-0.0 x c.wholly-made.new.words c.wholly-made.auto.words)
       | else-is_err w ↦ absurd (true≢false (sym (c.is_err.ensures.value ∙ ap is_err f.was) ∙ w.if-is_err.false))
     ])
 
@@ -26,5 +26,5 @@ returns c =
     let x = rw o.was at c.wholly-made.ensures in
     elim c.if-is_err.branch [
       | then-is_err w ↦ absurd (true≢false (sym w.if-is_err.true ∙ c.is_err.ensures.value ∙ ap is_err o.was))
-      | else-is_err w ↦ rw w.nodes-is (wholly-ended (held_by a.value) a.nodes.now c.wholly-made.new.words o.field-0 x)
+      | else-is_err w ↦ rw w.nodes-is (wholly-ended (held_by a.given.now.value) a.nodes.now c.wholly-made.new.words o.field-0 x)
     ]
