@@ -105,17 +105,20 @@ fn partly_of(nodes: &mut [u32], given: &Given, k: u32) -> Result<Stopped, Refuse
     if given.states() < k {
         return Err(Refused::TooFar);
     }
-    let staged = course::partly(nodes, given, k);
-    if staged.is_err() {
-        buffers::zero(nodes);
+    match course::partly(nodes, given, k) {
+        Ok(Staged { count, list }) => {
+            let rows = list.rows();
+            Ok(Stopped {
+                nodes: count as usize,
+                rows: rows.len(),
+                list: report::list_rows(nodes, rows),
+            })
+        }
+        Err(reason) => {
+            buffers::zero(nodes);
+            Err(reason)
+        }
     }
-    let Staged { count, list } = staged?;
-    let rows = list.rows();
-    Ok(Stopped {
-        nodes: count as usize,
-        rows: rows.len(),
-        list: report::list_rows(nodes, rows),
-    })
 }
 
 // The automaton of a file after the first k states are taken out: the nodes go to the lent words.
@@ -129,15 +132,16 @@ pub fn convert_partly(file: &[u8], k: u32, nodes: &mut [u32]) -> Result<Stopped,
 fn wholly_of(nodes: &mut [u32], given: &Given) -> Result<Converted, Refused>
     ensures { WhollyOf (held_by given.now.value) nodes.old nodes.new (wholly_answer result) }
 {
-    let made = course::wholly(nodes, given);
-    if made.is_err() {
-        buffers::zero(nodes);
+    match course::wholly(nodes, given) {
+        Ok(Got { count, node }) => Ok(Converted {
+            nodes: count as usize,
+            answer: node as usize,
+        }),
+        Err(short) => {
+            buffers::zero(nodes);
+            Err(short)
+        }
     }
-    let Got { count, node } = made?;
-    Ok(Converted {
-        nodes: count as usize,
-        answer: node as usize,
-    })
 }
 
 // The expression of a file's automaton: the nodes go to the lent words.
