@@ -1,5 +1,5 @@
 // The start of a conversion: the empty node, the holes, the nodes of the file's rows, and the list.
-ghost use Rattle.std.specs.Prelude.{◌≡◌, ◌++◌, map, suc, ◌+◌, ◌<◌, ◌≤◌, length, get_or};
+ghost use Rattle.std.specs.Prelude.{◌≡◌, ℕ, ◌++◌, map, suc, ◌+◌, ◌<◌, ◌≤◌, length, get_or};
 ghost use Rattle.sets.specs.Members.{has, state_width};
 ghost use Rattle.automaton.specs.Answers.{held_by};
 ghost use Rattle.automaton.specs.Held.{most_symbols, most_arity};
@@ -12,12 +12,14 @@ use crate::given::Given;
 use crate::maker::{EMPTY, HOLE, SYMBOL};
 use crate::rows::{Rows, Staged};
 use crate::{maker, rows};
-use automaton::{Refused, Row, SYMBOL_PLACES};
+use automaton::{Refused, Row, SOURCE_PLACES, SYMBOL_PLACES};
 use expressions::{ARITY_STEP, Shape};
 use ground::Wide;
 use sets::StateSet;
+use std::array;
 
-// The empty node and the holes of n states, and how many nodes they are.
+// The empty node and the holes of n states, and how many nodes they are. That n is at most the width is a clause here, of `put_finals` and of the
+// course: it is a number of states and none of them, and a type for it would be made once.
 fn put_holes(words: &mut [u32], n: u32) -> Result<u32, Refused>
     requires { n ≤ state_width }
     ensures { GivesTable words.old (holes_table n) words.new result }
@@ -30,10 +32,21 @@ fn put_holes(words: &mut [u32], n: u32) -> Result<u32, Refused>
 }
 
 // The child at a place of a rule's node: the source's hole, where there is one.
-fn child(place: u32, arity: u32, source: u8) -> u32
+fn child(place: usize, arity: u8, source: u8) -> u32
     ensures { result ≡ child_of place arity source }
 {
-    if place < arity { source.wide() + 1 } else { 0 }
+    if place < usize::from(arity) {
+        source.wide() + 1
+    } else {
+        0
+    }
+}
+
+// The children at all of its places.
+fn children(sources: [u8; SOURCE_PLACES], arity: u8) -> [u32; SOURCE_PLACES]
+    ensures { (place : ℕ) → place < most_arity → get_or result place 0 ≡ child_of place arity (get_or sources place 0) }
+{
+    array::from_fn(|place| child(place, arity, sources[place]))
 }
 
 // The shape of a rule's node, by the arities of the symbols.
@@ -42,15 +55,11 @@ fn rule_shape(rule: Row, arities: &[u8; SYMBOL_PLACES]) -> Shape
     requires symbol_bound { get_or arities.now rule.symbol 0 ≤ most_arity }
     ensures { result ≡ row_shape rule (get_or arities.now rule.symbol 0) }
 {
-    let at = ground::index(rule.symbol);
-    let arity = arities[at].wide();
-    let sources = rule.sources;
-    let first = child(0, arity, sources[0]);
-    let second = child(1, arity, sources[1]);
-    let third = child(2, arity, sources[2]);
+    let arity = arities[usize::from(rule.symbol)];
+    let [first, second, third] = children(rule.sources, arity);
     Shape {
         kind: SYMBOL,
-        label: rule.symbol.wide() + ARITY_STEP * arity,
+        label: rule.symbol.wide() + ARITY_STEP * arity.wide(),
         first,
         second,
         third,
