@@ -25,6 +25,19 @@ pub const ARITY_STEP: u32 = 256;
 // The most nodes that a table may have.
 pub const MOST_NODES: usize = 4096;
 
+// The kinds of nodes. A table has kinds as numbers (7.2), so that these are numbers and no enum.
+pub const EMPTY: u32 = 0;
+
+pub const HOLE: u32 = 1;
+
+pub const SYMBOL: u32 = 2;
+
+pub const ALTERNATION: u32 = 3;
+
+pub const CONCATENATION: u32 = 4;
+
+pub const ITERATION: u32 = 5;
+
 // What a node says: its kind, its label and three places for children.
 #[repr(C)]
 #[derive(Clone, Copy, PartialEq, Eq, Debug)]
@@ -67,7 +80,7 @@ impl Node {
     // The node with every number 0, which stands for a node that is not there: the promise of `node_at` asks for it (7.20).
     const EMPTY: Node = Node {
         shape: Shape {
-            kind: 0,
+            kind: EMPTY,
             label: 0,
             first: 0,
             second: 0,
@@ -84,9 +97,9 @@ impl Shape {
         ensures { result ≡ child_count self.kind self.label }
     {
         match self.kind {
-            2 => self.label / ARITY_STEP,
-            3 | 4 => 2,
-            5 => 1,
+            SYMBOL => self.label / ARITY_STEP,
+            ALTERNATION | CONCATENATION => 2,
+            ITERATION => 1,
             _ => 0,
         }
     }

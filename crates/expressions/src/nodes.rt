@@ -8,7 +8,9 @@ ghost use Rattle.expressions.specs.Soundness.{Labelled, Fits, union_all, cat_ope
 ghost use Rattle.expressions.specs.Inside.{nodes_of};
 
 use crate::layout::nth;
-use crate::{ARITY_STEP, NODE_WIDTH, Shape};
+use crate::{
+    ALTERNATION, ARITY_STEP, CONCATENATION, EMPTY, HOLE, ITERATION, NODE_WIDTH, SYMBOL, Shape,
+};
 use ground::Wide;
 use sets::StateSet;
 
@@ -31,9 +33,9 @@ fn label_fits(kind: u32, label: u32) -> bool
     ensures { Decides (Labelled kind label) result }
 {
     match kind {
-        0 | 3 => label == 0,
-        1 | 4 | 5 => label < MOST_STATES,
-        2 => symbol_fits(label),
+        EMPTY | ALTERNATION => label == 0,
+        HOLE | CONCATENATION | ITERATION => label < MOST_STATES,
+        SYMBOL => symbol_fits(label),
         _ => false,
     }
 }
@@ -109,14 +111,14 @@ pub fn open_of(nodes: &[[u32; NODE_WIDTH]], shape: Shape) -> u32
     ensures { result ≡ opens_in (λ c. (node_at (nodes_of nodes.now) c).opens) shape }
 {
     match shape.kind {
-        1 => StateSet::one(shape.label).0.wide(),
-        2 | 3 => union_opens(nodes, shape),
-        4 => cat_opens(
+        HOLE => StateSet::one(shape.label).0.wide(),
+        SYMBOL | ALTERNATION => union_opens(nodes, shape),
+        CONCATENATION => cat_opens(
             shape.label,
             opens_of(nodes, shape.first),
             opens_of(nodes, shape.second),
         ),
-        5 => iter_opens(shape.label, opens_of(nodes, shape.first)),
+        ITERATION => iter_opens(shape.label, opens_of(nodes, shape.first)),
         _ => 0,
     }
 }

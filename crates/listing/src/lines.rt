@@ -12,7 +12,7 @@ ghost use Rattle.listing.specs.Answers.{listing_of};
 ghost use Rattle.listing.specs.Inside.{name_bytes, number_in, label_bytes, FitsThen};
 
 use crate::{LONGEST_ANSWER, LONGEST_LINE};
-use expressions::{ARITY_STEP, Shape};
+use expressions::{ALTERNATION, ARITY_STEP, CONCATENATION, EMPTY, HOLE, ITERATION, SYMBOL, Shape};
 
 // ---- what a line says
 
@@ -22,12 +22,12 @@ fn name(kind: u32) -> &'static [u8]
     ensures { result.now ≡ name_bytes kind }
 {
     match kind {
-        0 => b" empty",
-        1 => b" hole",
-        2 => b" symbol",
-        3 => b" alt",
-        4 => b" cat",
-        5 => b" iter",
+        EMPTY => b" empty",
+        HOLE => b" hole",
+        SYMBOL => b" symbol",
+        ALTERNATION => b" alt",
+        CONCATENATION => b" cat",
+        ITERATION => b" iter",
         _ => b" ",
     }
 }
@@ -37,8 +37,8 @@ fn label_number(kind: u32, label: u32) -> Option<u32>
     ensures { result ≡ number_in (kind_of kind) label }
 {
     match kind {
-        1 | 4 | 5 => Some(label),
-        2 => Some(label % ARITY_STEP),
+        HOLE | CONCATENATION | ITERATION => Some(label),
+        SYMBOL => Some(label % ARITY_STEP),
         _ => None,
     }
 }
@@ -121,12 +121,12 @@ impl Page<'_> {
         ensures wrote { FitsThen self.old.out.now self.old.at (name_bytes kind) self.new.out.now self.new.at }
     {
         match kind {
-            0 => self.put(name(0)),
-            1 => self.put(name(1)),
-            2 => self.put(name(2)),
-            3 => self.put(name(3)),
-            4 => self.put(name(4)),
-            5 => self.put(name(5)),
+            EMPTY => self.put(name(EMPTY)),
+            HOLE => self.put(name(HOLE)),
+            SYMBOL => self.put(name(SYMBOL)),
+            ALTERNATION => self.put(name(ALTERNATION)),
+            CONCATENATION => self.put(name(CONCATENATION)),
+            ITERATION => self.put(name(ITERATION)),
             _ => self.put(name(kind)),
         }
     }
