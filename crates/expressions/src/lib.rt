@@ -105,7 +105,7 @@ impl Shape {
     }
 
     // The places for children, used or not.
-    fn places(self) -> [u32; 3]
+    pub fn places(self) -> [u32; 3]
         ensures { result ≡ places self }
     {
         [self.first, self.second, self.third]

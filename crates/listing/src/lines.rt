@@ -4,7 +4,7 @@ ghost use Rattle.ground.specs.Decides.{Decides};
 ghost use Rattle.ground.specs.Lists.{All};
 ghost use Rattle.buffers.specs.Decimal.{decimal};
 ghost use Rattle.buffers.specs.Writing.{Wrote};
-ghost use Rattle.expressions.specs.Nodes.{kind_of, places, children};
+ghost use Rattle.expressions.specs.Nodes.{kind_of, children};
 ghost use Rattle.expressions.specs.Soundness.{Fits, Sound};
 ghost use Rattle.expressions.proofs.Props.{sound-prop};
 ghost use Rattle.listing.specs.Listing.{spaced, plain_label, node_line, answer_line};
@@ -43,13 +43,6 @@ fn label_number(kind: u32, label: u32) -> Option<u32>
     }
 }
 
-// The places for children. `expressions` has the same for itself alone: a public one would be one more promise.
-fn places(shape: Shape) -> [u32; 3]
-    ensures { result ≡ places shape }
-{
-    [shape.first, shape.second, shape.third]
-}
-
 // ---- lengths
 
 // How long a number is, with the blank before it.
@@ -64,7 +57,7 @@ fn children_length(shape: Shape) -> usize
     requires { All (λ c. c < 10000) (children shape) }
     ensures { result ≡ length (spaced (map decimal (children shape))) }
 {
-    let places = places(shape);
+    let places = shape.places();
     let children = places.iter().take(shape.child_count() as usize);
     children.map(|child| field_length(*child)).sum()
 }
@@ -146,7 +139,7 @@ impl Page<'_> {
         ensures same_bytes { self.new.out.ghost_name ≡ self.old.out.ghost_name }
         ensures wrote { FitsThen self.old.out.now self.old.at (spaced (map decimal (children shape))) self.new.out.now self.new.at }
     {
-        let places = places(shape);
+        let places = shape.places();
         for child in places.iter().take(shape.child_count() as usize) {
             self.field(*child);
         }
