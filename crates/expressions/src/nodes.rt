@@ -1,4 +1,4 @@
-// One node: what its kind, label and children must keep, and its open set.
+// One node: what its kind, label and children must keep, and its open set. A `u32` becomes a `usize` by `as`: there is no `From` from the one to the other.
 ghost use Rattle.std.specs.Prelude.{◌≡◌, ◌<◌, map, length, take};
 ghost use Rattle.sets.specs.Members.{one_set, union, state_width};
 ghost use Rattle.ground.specs.Decides.{Decides};
@@ -62,7 +62,7 @@ pub fn shape_fits(number: usize, shape: Shape) -> bool
     label_fits(shape.kind, shape.label) && places_fit(number, shape)
 }
 
-// The open word of a child. By `as`, since there is no `From` to a `usize` from a `u32`.
+// The open word of a child.
 fn opens_of(nodes: &[[u32; NODE_WIDTH]], child: u32) -> u32
     ensures { result ≡ (node_at (nodes_of nodes.now) child).opens }
 {
@@ -131,7 +131,7 @@ fn node_sound(nodes: &[[u32; NODE_WIDTH]], i: usize) -> bool
     shape_fits(i, node.shape) && node.opens == open_of(nodes, node.shape)
 }
 
-// Does every node keep the rules?
+// Does every node keep the rules? By number, since a node is judged over the nodes before it.
 pub fn all_sound(nodes: &[[u32; NODE_WIDTH]]) -> bool
     ensures { Decides (SoundNodes (nodes_of nodes.now)) result }
 {

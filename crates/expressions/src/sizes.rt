@@ -1,4 +1,4 @@
-// Written-out sizes: of one node by those of its children, and of the nodes of a table in their order.
+// Written-out sizes: of one node by those of its children, and of the nodes of a table in their order. A `u32` becomes a `usize` by `as`: there is no `From` from the one to the other.
 ghost use Rattle.std.specs.Prelude.{◌≡◌, length, get_or};
 ghost use Rattle.expressions.specs.Soundness.{SoundNodes};
 ghost use Rattle.expressions.specs.Sizes.{held, sizes_of};

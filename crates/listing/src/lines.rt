@@ -1,4 +1,4 @@
-// The lines of a listing: how long they are, and their bytes.
+// The lines of a listing: how long they are, and their bytes. A number is converted by `as` where there is no `From`: from `u32` to `usize`, and from `usize` to `u64`.
 ghost use Rattle.std.specs.Prelude.{◌≡◌, ◌<◌, ◌≤◌, ◌∷◌, map, length};
 ghost use Rattle.ground.specs.Decides.{Decides};
 ghost use Rattle.ground.specs.Lists.{All};
@@ -62,7 +62,7 @@ fn children_length(shape: Shape) -> usize
     children.map(|child| field_length(*child)).sum()
 }
 
-// How long the line of a node is. By `as`, here and below, since there is no `From` between `usize` and `u64`.
+// How long the line of a node is.
 fn line_length(number: usize, shape: Shape) -> usize
     requires few { number < 10000 }
     requires fits { Fits number shape }
@@ -75,7 +75,7 @@ fn line_length(number: usize, shape: Shape) -> usize
 
 // ---- bytes
 
-// The bytes of a listing, and the place as far as which they are written.
+// The bytes of a listing, and the place as far as which they are written. The page lends no bytes but those that it was given: each method promises it, as `same_bytes`, since an invariant sees only one value of a page.
 #[derive(Drop)]
 struct Page<'a> {
     out: &'a mut [u8],

@@ -105,7 +105,7 @@ pub fn measure(count: usize, answer: usize, scratch: &mut [u32]) {
     say!(", scratch", Spaced(scratch), "\n")
 }
 
-// The size of the last node, where each from 1 on is a symbol over the node before, twice: sizes 1, 3, 7 and so on.
+// The size of the last node, where each from 1 on is a symbol over the node before, twice: sizes 1, 3, 7 and so on. By `as`, since there is no `From` from `u32` to `usize`.
 pub fn measure_doubled(last: u32) {
     let mut words = [0; 198];
     put(&mut words, 0, leaf(0));
