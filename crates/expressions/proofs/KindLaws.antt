@@ -33,7 +33,7 @@ two-count (suc (suc (suc zero))) label l h = refl
 two-count (suc (suc (suc (suc zero)))) label l h = refl
 two-count (suc (suc (suc (suc (suc kind))))) label l h = absurd (omega arith)
 
--- what the code needs of these where it tests a range of kinds
+-- what the code needs of these where one arm stands for several kinds
 pub ruleset counts = (none-count, two-count, other-count)
 
 -- the open set of the kinds that have none of their own

@@ -1,4 +1,4 @@
-// One node: what its kind, label and children must keep, and its open set.
+// One node: what its kind, label and children must keep, and its open set. A `u32` becomes a `usize` by `as`: there is no `From` from the one to the other.
 ghost use Rattle.std.specs.Prelude.{◌≡◌, ◌<◌, map, length, take};
 ghost use Rattle.sets.specs.Members.{one_set, union, state_width};
 ghost use Rattle.ground.specs.Decides.{Decides};
@@ -8,7 +8,9 @@ ghost use Rattle.expressions.specs.Soundness.{Labelled, Fits, union_all, cat_ope
 ghost use Rattle.expressions.specs.Inside.{nodes_of};
 
 use crate::layout::nth;
-use crate::{ARITY_STEP, NODE_WIDTH, Shape};
+use crate::{
+    ALTERNATION, ARITY_STEP, CONCATENATION, EMPTY, HOLE, ITERATION, NODE_WIDTH, SYMBOL, Shape,
+};
 use ground::Wide;
 use sets::StateSet;
 
@@ -31,9 +33,9 @@ fn label_fits(kind: u32, label: u32) -> bool
     ensures { Decides (Labelled kind label) result }
 {
     match kind {
-        0 | 3 => label == 0,
-        1 | 4 | 5 => label < MOST_STATES,
-        2 => symbol_fits(label),
+        EMPTY | ALTERNATION => label == 0,
+        HOLE | CONCATENATION | ITERATION => label < MOST_STATES,
+        SYMBOL => symbol_fits(label),
         _ => false,
     }
 }
@@ -60,7 +62,7 @@ pub fn shape_fits(number: usize, shape: Shape) -> bool
     label_fits(shape.kind, shape.label) && places_fit(number, shape)
 }
 
-// The open word of a child. By `as`, since there is no `From` to a `usize` from a `u32`.
+// The open word of a child.
 fn opens_of(nodes: &[[u32; NODE_WIDTH]], child: u32) -> u32
     ensures { result ≡ (node_at (nodes_of nodes.now) child).opens }
 {
@@ -109,14 +111,14 @@ pub fn open_of(nodes: &[[u32; NODE_WIDTH]], shape: Shape) -> u32
     ensures { result ≡ opens_in (λ c. (node_at (nodes_of nodes.now) c).opens) shape }
 {
     match shape.kind {
-        1 => StateSet::one(shape.label).0.wide(),
-        2 | 3 => union_opens(nodes, shape),
-        4 => cat_opens(
+        HOLE => StateSet::one(shape.label).0.wide(),
+        SYMBOL | ALTERNATION => union_opens(nodes, shape),
+        CONCATENATION => cat_opens(
             shape.label,
             opens_of(nodes, shape.first),
             opens_of(nodes, shape.second),
         ),
-        5 => iter_opens(shape.label, opens_of(nodes, shape.first)),
+        ITERATION => iter_opens(shape.label, opens_of(nodes, shape.first)),
         _ => 0,
     }
 }
@@ -129,7 +131,7 @@ fn node_sound(nodes: &[[u32; NODE_WIDTH]], i: usize) -> bool
     shape_fits(i, node.shape) && node.opens == open_of(nodes, node.shape)
 }
 
-// Does every node keep the rules?
+// Does every node keep the rules? By number, since a node is judged over the nodes before it.
 pub fn all_sound(nodes: &[[u32; NODE_WIDTH]]) -> bool
     ensures { Decides (SoundNodes (nodes_of nodes.now)) result }
 {

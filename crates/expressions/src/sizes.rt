@@ -1,11 +1,11 @@
-// Written-out sizes: of one node by those of its children, and of the nodes of a table in their order.
+// Written-out sizes: of one node by those of its children, and of the nodes of a table in their order. A `u32` becomes a `usize` by `as`: there is no `From` from the one to the other.
 ghost use Rattle.std.specs.Prelude.{◌≡◌, length, get_or};
 ghost use Rattle.expressions.specs.Soundness.{SoundNodes};
 ghost use Rattle.expressions.specs.Sizes.{held, sizes_of};
 ghost use Rattle.expressions.specs.Inside.{nodes_of, size_over};
 
 use crate::layout::nth;
-use crate::{NODE_WIDTH, Shape};
+use crate::{ALTERNATION, CONCATENATION, ITERATION, NODE_WIDTH, SYMBOL, Shape};
 
 // 1 plus the sizes of the children, held at the largest 32-bit number.
 fn over_children(sizes: &[u32], shape: Shape) -> u32
@@ -24,7 +24,7 @@ fn size_at(sizes: &[u32], shape: Shape) -> u32
     ensures { result ≡ held (size_over (λ c. get_or sizes.now c 0) shape) }
 {
     match shape.kind {
-        2..=5 => over_children(sizes, shape),
+        SYMBOL | ALTERNATION | CONCATENATION | ITERATION => over_children(sizes, shape),
         _ => 1,
     }
 }

@@ -15,7 +15,7 @@ pub const LONGEST_LINE: usize = 30;
 
 pub const LONGEST_ANSWER: usize = 12;
 
-// The listing of the table, into the bytes, and its length.
+// The listing of the table, into the bytes, and its length. Words, count and answer are apart, since the function is public and the doors pass them so.
 pub fn list(words: &[u32], count: usize, answer: usize, out: &mut [u8]) -> Result<usize, Refused>
     ensures { Lists words.now count answer out.old out.new (extent_of result) }
 {

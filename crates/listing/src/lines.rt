@@ -1,10 +1,10 @@
-// The lines of a listing: how long they are, and their bytes.
+// The lines of a listing: how long they are, and their bytes. A number is converted by `as` where there is no `From`: from `u32` to `usize`, and from `usize` to `u64`.
 ghost use Rattle.std.specs.Prelude.{◌≡◌, ◌<◌, ◌≤◌, ◌∷◌, map, length};
 ghost use Rattle.ground.specs.Decides.{Decides};
 ghost use Rattle.ground.specs.Lists.{All};
 ghost use Rattle.buffers.specs.Decimal.{decimal};
 ghost use Rattle.buffers.specs.Writing.{Wrote};
-ghost use Rattle.expressions.specs.Nodes.{kind_of, places, children};
+ghost use Rattle.expressions.specs.Nodes.{kind_of, children};
 ghost use Rattle.expressions.specs.Soundness.{Fits, Sound};
 ghost use Rattle.expressions.proofs.Props.{sound-prop};
 ghost use Rattle.listing.specs.Listing.{spaced, plain_label, node_line, answer_line};
@@ -12,7 +12,7 @@ ghost use Rattle.listing.specs.Answers.{listing_of};
 ghost use Rattle.listing.specs.Inside.{name_bytes, number_in, label_bytes, FitsThen};
 
 use crate::{LONGEST_ANSWER, LONGEST_LINE};
-use expressions::{ARITY_STEP, Shape};
+use expressions::{ALTERNATION, ARITY_STEP, CONCATENATION, EMPTY, HOLE, ITERATION, SYMBOL, Shape};
 
 // ---- what a line says
 
@@ -22,12 +22,12 @@ fn name(kind: u32) -> &'static [u8]
     ensures { result.now ≡ name_bytes kind }
 {
     match kind {
-        0 => b" empty",
-        1 => b" hole",
-        2 => b" symbol",
-        3 => b" alt",
-        4 => b" cat",
-        5 => b" iter",
+        EMPTY => b" empty",
+        HOLE => b" hole",
+        SYMBOL => b" symbol",
+        ALTERNATION => b" alt",
+        CONCATENATION => b" cat",
+        ITERATION => b" iter",
         _ => b" ",
     }
 }
@@ -37,17 +37,10 @@ fn label_number(kind: u32, label: u32) -> Option<u32>
     ensures { result ≡ number_in (kind_of kind) label }
 {
     match kind {
-        1 | 4 | 5 => Some(label),
-        2 => Some(label % ARITY_STEP),
+        HOLE | CONCATENATION | ITERATION => Some(label),
+        SYMBOL => Some(label % ARITY_STEP),
         _ => None,
     }
-}
-
-// The places for children. `expressions` has the same for itself alone: a public one would be one more promise.
-fn places(shape: Shape) -> [u32; 3]
-    ensures { result ≡ places shape }
-{
-    [shape.first, shape.second, shape.third]
 }
 
 // ---- lengths
@@ -64,12 +57,12 @@ fn children_length(shape: Shape) -> usize
     requires { All (λ c. c < 10000) (children shape) }
     ensures { result ≡ length (spaced (map decimal (children shape))) }
 {
-    let places = places(shape);
+    let places = shape.places();
     let children = places.iter().take(shape.child_count() as usize);
     children.map(|child| field_length(*child)).sum()
 }
 
-// How long the line of a node is. By `as`, here and below, since there is no `From` between `usize` and `u64`.
+// How long the line of a node is.
 fn line_length(number: usize, shape: Shape) -> usize
     requires few { number < 10000 }
     requires fits { Fits number shape }
@@ -82,7 +75,7 @@ fn line_length(number: usize, shape: Shape) -> usize
 
 // ---- bytes
 
-// The bytes of a listing, and the place as far as which they are written.
+// The bytes of a listing, and the place as far as which they are written. The page lends no bytes but those that it was given: each method promises it, as `same_bytes`, since an invariant sees only one value of a page.
 #[derive(Drop)]
 struct Page<'a> {
     out: &'a mut [u8],
@@ -121,12 +114,12 @@ impl Page<'_> {
         ensures wrote { FitsThen self.old.out.now self.old.at (name_bytes kind) self.new.out.now self.new.at }
     {
         match kind {
-            0 => self.put(name(0)),
-            1 => self.put(name(1)),
-            2 => self.put(name(2)),
-            3 => self.put(name(3)),
-            4 => self.put(name(4)),
-            5 => self.put(name(5)),
+            EMPTY => self.put(name(EMPTY)),
+            HOLE => self.put(name(HOLE)),
+            SYMBOL => self.put(name(SYMBOL)),
+            ALTERNATION => self.put(name(ALTERNATION)),
+            CONCATENATION => self.put(name(CONCATENATION)),
+            ITERATION => self.put(name(ITERATION)),
             _ => self.put(name(kind)),
         }
     }
@@ -146,7 +139,7 @@ impl Page<'_> {
         ensures same_bytes { self.new.out.ghost_name ≡ self.old.out.ghost_name }
         ensures wrote { FitsThen self.old.out.now self.old.at (spaced (map decimal (children shape))) self.new.out.now self.new.at }
     {
-        let places = places(shape);
+        let places = shape.places();
         for child in places.iter().take(shape.child_count() as usize) {
             self.field(*child);
         }

@@ -5,10 +5,10 @@ use crate::conversions;
 use crate::drafts::P;
 use crate::say::{Shown, Spaced, say};
 use automaton::{Extent, Refusal};
-use expressions::{ARITY_STEP, Measured, Shape};
+use expressions::{ARITY_STEP, HOLE, ITERATION, Measured, SYMBOL, Shape};
 
 pub const EMPTY: Shape = Shape {
-    kind: 0,
+    kind: expressions::EMPTY,
     label: 0,
     first: 0,
     second: 0,
@@ -17,7 +17,7 @@ pub const EMPTY: Shape = Shape {
 
 pub fn hole(state: u32) -> Shape {
     Shape {
-        kind: 1,
+        kind: HOLE,
         label: state,
         ..EMPTY
     }
@@ -26,7 +26,7 @@ pub fn hole(state: u32) -> Shape {
 // A symbol that takes no children.
 pub fn leaf(symbol: u32) -> Shape {
     Shape {
-        kind: 2,
+        kind: SYMBOL,
         label: symbol,
         ..EMPTY
     }
@@ -44,7 +44,7 @@ fn pair(symbol: u8, child: u32) -> Shape {
 
 pub fn iteration(state: u32, child: u32) -> Shape {
     Shape {
-        kind: 5,
+        kind: ITERATION,
         label: state,
         first: child,
         ..EMPTY
@@ -105,7 +105,7 @@ pub fn measure(count: usize, answer: usize, scratch: &mut [u32]) {
     say!(", scratch", Spaced(scratch), "\n")
 }
 
-// The size of the last node, where each from 1 on is a symbol over the node before, twice: sizes 1, 3, 7 and so on.
+// The size of the last node, where each from 1 on is a symbol over the node before, twice: sizes 1, 3, 7 and so on. By `as`, since there is no `From` from `u32` to `usize`.
 pub fn measure_doubled(last: u32) {
     let mut words = [0; 198];
     put(&mut words, 0, leaf(0));
