@@ -1,4 +1,4 @@
--- Numbers in decimal: one digit more for each division by ten, the digits of a number below 10,000, and how many digits there are.
+-- Numbers in decimal: one digit more for each division by ten, and how many digits there are.
 use Prim.Native.Nat.{ℕ, zero, suc, ◌+◌, ◌*◌, ◌/◌, ◌^◌, ◌<◌, ◌≤◌}
 use native.Mathlib.Nat.{pow-suc, one-le-pow}
 use native.Mathlib.Decide.{dec_lt}

@@ -11,21 +11,8 @@ ghost use Rattle.elimination.specs.Inside.{Both, NodeOn, open_in};
 
 use crate::state::State;
 use automaton::Refused;
-use expressions::Node;
+use expressions::{ALTERNATION, CONCATENATION, EMPTY, HOLE, ITERATION, Node};
 use sets::StateSet;
-
-// The kinds of nodes. A table has them as numbers (7.2), and so do the definitions: an enum would be cast at every use.
-pub const EMPTY: u32 = 0;
-
-pub const HOLE: u32 = 1;
-
-pub const SYMBOL: u32 = 2;
-
-const ALTERNATION: u32 = 3;
-
-const CONCATENATION: u32 = 4;
-
-const ITERATION: u32 = 5;
 
 // What a maker made: the number of nodes, and the node that was asked for.
 #[derive(Clone, Copy, PartialEq, Eq, Debug)]

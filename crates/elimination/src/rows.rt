@@ -56,7 +56,7 @@ impl Rows {
     }
 }
 
-// What a maker of rows made: the number of nodes, and the list.
+// What a maker of rows made: the number of nodes, and the list (`Got` has a node in its place: a type for both would name neither).
 #[derive(Drop)]
 pub struct Staged {
     pub count: u32,

@@ -9,11 +9,10 @@ ghost use Rattle.theory.specs.Stages.{holes_table, final_node_row, start};
 ghost use Rattle.elimination.specs.Inside.{GivesTable, GivesStage, StageOn, child_of, row_shape, rules_stage};
 
 use crate::given::Given;
-use crate::maker::{EMPTY, HOLE, SYMBOL};
 use crate::rows::{Rows, Staged};
 use crate::{maker, rows};
 use automaton::{Refused, Row, SOURCE_PLACES, SYMBOL_PLACES};
-use expressions::{ARITY_STEP, Shape};
+use expressions::{ARITY_STEP, EMPTY, HOLE, SYMBOL, Shape};
 use ground::Wide;
 use sets::StateSet;
 use std::array;

@@ -43,7 +43,7 @@ fn label_number(kind: u32, label: u32) -> Option<u32>
     }
 }
 
-// ---- lengths
+// ---- lengths: of each part that is put below. One code for both would go through the bytes also where they are only counted.
 
 // How long a number is, with the blank before it.
 fn field_length(n: u32) -> usize

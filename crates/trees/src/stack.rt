@@ -1,4 +1,5 @@
-// A pile of sets in fixed memory: its top stands highest.
+// A pile of sets in fixed memory: its top stands highest. The row list of `elimination` owns its places and goes the other way: one type for both would
+// have both views.
 ghost use Rattle.std.specs.Prelude.{◌≡◌, ◌<◌, ◌≤◌, List, [], ◌∷◌, ℕ, length};
 ghost use Rattle.automaton.specs.Held.{most_arity};
 ghost use Rattle.trees.specs.Words.{most_words};

@@ -28,6 +28,8 @@ fn put_record(out: &mut [u8], kind: u8, payload: &[u8]) -> usize
     end
 }
 
+// The records of the symbols. That of the rows is no other loop, but what it goes over and what it puts of each differ: one code for both would take
+// a closure that takes its part of the bytes, and be no plainer.
 fn put_symbols(out: &mut [u8], arities: &[u8]) -> usize
     requires { length (each symbol_record arities.now) ≤ length out.old }
     ensures { Put (each symbol_record arities.now) out.old out.new result }
