@@ -98,7 +98,7 @@ impl From<Result<Converted, Refused>> for Wholly {
     }
 }
 
-// The automaton after its first k states are taken out.
+// The automaton after its first k states are taken out. Numbers of nodes are words inside and indices outside, by `as`, since there is no `From`.
 fn partly_of(nodes: &mut [u32], given: &Given, k: u32) -> Result<Stopped, Refused>
     ensures { PartlyOf (held_by given.now.value) k nodes.old nodes.new (partly_answer result) }
 {

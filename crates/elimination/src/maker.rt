@@ -14,7 +14,8 @@ use automaton::Refused;
 use expressions::{ALTERNATION, CONCATENATION, EMPTY, HOLE, ITERATION, Node};
 use sets::StateSet;
 
-// What a maker made: the number of nodes, and the node that was asked for.
+// What a maker made: the number of nodes, and the node that was asked for. Both are words, as a table has them, and indices by `as`: from `u32` to
+// `usize` there is no `From`.
 #[derive(Clone, Copy, PartialEq, Eq, Debug)]
 pub struct Got {
     pub count: u32,

@@ -20,7 +20,7 @@ pub const NOTHING: Stopped = Stopped {
     list: [UNUSED; LIST_PLACES],
 };
 
-// A row with its waiting number.
+// A row with its waiting number, which is at most 16, so that `as` cuts nothing off.
 fn list_row(words: &[u32], row: NodeRow) -> ListRow
     ensures { result ≡ reported_row words.now row }
 {
