@@ -14,7 +14,7 @@ use Rattle.writer.specs.Answers.{Written}
 use Rattle.trees.specs.declared.Reached.{Reached}
 use Rattle.trees.specs.Promises.{RunPromise, ProductivePromise, run_of, states_of}
 use Rattle.expressions.specs.declared.Shape.{Shape}
-use Rattle.expressions.specs.Nodes.{child_count}
+use Rattle.expressions.specs.Nodes.{child_count, places}
 use Rattle.expressions.specs.Words.{node_in}
 use Rattle.expressions.specs.Making.{Makes}
 use Rattle.expressions.specs.Answers.{SoundAnswer, Measures, measured_of}
@@ -60,8 +60,9 @@ pub record EachOnce : Type 0 where
   -- `run`, `productive`
   pub run : (file words : List ℕ) → Once (RunPromise file words)
   pub productive : (file : List ℕ) → Once (ProductivePromise file)
-  -- `child_count`, `node_at`, `is_sound`, `make`, `measure`, `list`
+  -- `child_count`, `places`, `node_at`, `is_sound`, `make`, `measure`, `list`
   pub child_count : (shape : Shape) → Once (λ r. r ≡ child_count shape.kind shape.label)
+  pub places : (shape : Shape) → Once (λ r. r ≡ places shape)
   pub node_at : (words : List ℕ) (i : ℕ) → Once (λ r. r ≡ node_in words i)
   pub is_sound : (words : List ℕ) (count answer : ℕ) → Once (SoundAnswer words count answer)
   pub make : (before : List ℕ) (count : ℕ) (shape : Shape) → OnceBoth (Makes before count shape)

@@ -59,6 +59,7 @@ each_once =
       run = run-unique;
       productive = productive-unique;
       child_count = λ shape. value-once _;
+      places = λ shape. value-once _;
       node_at = λ words i. value-once _;
       is_sound = sound-once;
       make = make-once;
