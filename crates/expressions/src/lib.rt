@@ -140,8 +140,8 @@ pub fn is_sound(words: &[u32], count: usize, answer: usize) -> bool
     sound_nodes(words, count, answer).is_some()
 }
 
-// The five numbers come one by one: the signature is public, and with a `Shape` the largest conversion took 2.1 times what the tuned program takes, and 1.3 times without.
 // The node of this kind, label and children, as the next node of the table. Its open set is derived from the children's. Refused, and nothing changed: 8 where the kind, the label or a child does not suit, then 6 where there is no room.
+// The five numbers come one by one: the signature is public, and with a `Shape` the largest conversion took 2.1 times what the tuned program takes, and 1.3 times without.
 pub fn make(
     words: &mut [u32],
     count: usize,
