@@ -11,7 +11,7 @@ use Rattle.automaton.specs.Answers.{read_answer}
 use Rattle.writer.specs.Answers.{Written}
 use Rattle.trees.specs.Promises.{RunPromise, ProductivePromise}
 use Rattle.expressions.specs.declared.Shape.{Shape}
-use Rattle.expressions.specs.Nodes.{child_count}
+use Rattle.expressions.specs.Nodes.{child_count, places}
 use Rattle.expressions.specs.Words.{node_in}
 use Rattle.expressions.specs.Making.{Makes}
 use Rattle.expressions.specs.Answers.{SoundAnswer, Measures}
@@ -63,6 +63,7 @@ pub record EachKept : Type 0 where
   pub productive : (file : List ℕ) → Kept ProductiveFits (ProductivePromise file)
   -- tables [7.13, 7.15, 7.20, 9.3, 9.8]
   pub child_count : (shape : Shape) → ShapeFits shape → Kept Word (λ r. r ≡ child_count shape.kind shape.label)
+  pub places : (shape : Shape) → ShapeFits shape → Kept Words (λ r. r ≡ places shape)
   pub node_at : (words : List ℕ) (i : ℕ) → Words words → Kept NodeFits (λ r. r ≡ node_in words i)
   pub is_sound : (words : List ℕ) (count answer : ℕ) → Kept YesFits (SoundAnswer words count answer)
   pub make : (before : List ℕ) (count : ℕ) (shape : Shape) → KeptBoth RefusalFits Words before (Makes before count shape)

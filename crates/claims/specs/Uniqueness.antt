@@ -36,7 +36,7 @@ OnceBoth {A} Promise = (after other : List ℕ) (r s : A) → Promise after r �
 abbrev pub OnceAll : {A : Type 0} → (List ℕ → List ℕ → A → Type 0) → Type 0
 OnceAll {A} Promise = (after other bytes others : List ℕ) (r s : A) → Promise after bytes r → Promise other others s → (r ≡ s) × ((after ≡ other) × (bytes ≡ others))
 
--- The doors (`crates/doors`, `crates/bridges`, `crates/hatches`) tie each function's contract to the promise named here, but for three functions that only widen a number: a door's contract cites the promise, and is proved from the contract of the function behind it, so that a weakened `ensures` would break the door.
+-- The doors (`crates/doors`, `crates/bridges`, `crates/hatches`) tie each function's contract to the promise named here, but for the functions that only widen a number and `Shape::places`: a door's contract cites the promise, and is proved from the contract of the function behind it, so that a weakened `ensures` would break the door.
 pub record EachOnce : Type 0 where
   -- sets: `empty`, `one`, `of_word`, `union`, `has`, `past`, `without`, `count`
   pub set_empty : Once IsEmpty

@@ -1,4 +1,4 @@
-// Drafts converted: wholly, partly, and to the text that is printed.
+// Drafts converted: wholly, partly, and to the text that is printed. A draft and what is lent for it go side by side, as the public functions take them.
 use crate::drafts::Draft;
 use crate::say::{Left, Say, Shown, say};
 use crate::tables;

@@ -1,4 +1,5 @@
-// The bytes of a value's file, record by record, each at the front of what is left; each answers how many bytes it put.
+// The bytes of a value's file, record by record, each at the front of what is left; each answers how many bytes it put. The bytes
+// and the arities go side by side: they are no one thing.
 ghost use Rattle.std.specs.Prelude.{[], ◌∷◌, map, ◌+◌, ◌≤◌, ◌<◌, length};
 ghost use Rattle.automaton.specs.Held.{Valid};
 ghost use Rattle.automaton.specs.File.{file_record, symbol_record, row_record, each, file_of};

@@ -12,7 +12,7 @@ use Rattle.automaton.specs.Checks.{Verdict, verdict, holds, fault}
 use Rattle.automaton.specs.Answers.{reading_of, read_answer}
 use Rattle.automaton.proofs.Files.Pair.{verdict-valid}
 use Rattle.automaton.proofs.Files.Faults.{fault-number}
-use Rattle.expressions.specs.Nodes.{child_count}
+use Rattle.expressions.specs.Nodes.{child_count, places}
 use Rattle.expressions.specs.Words.{node_in}
 use Rattle.claims.specs.Types.{SetFits, ReadingFits}
 use Rattle.claims.specs.Kept.{Kept, EachKept}
@@ -59,6 +59,7 @@ each_kept =
       run = run-kept;
       productive = productive-kept;
       child_count = λ shape f. (child_count shape.kind shape.label, refl, count_word shape f);
+      places = λ shape f. (places shape, refl, (f.2, (f.3, (f.4, tt))));
       node_at = λ words i w. (node_in words i, refl, node-in-fits words w i);
       is_sound = sound-kept;
       make = make-kept;
