@@ -1,4 +1,5 @@
-// The course of a conversion: the start, the states, the join.
+// The course of a conversion: the start, the states, the join. Words and what else go side by side, as in `maker`, and the bound on k is a clause, as
+// in `start`.
 ghost use Rattle.std.specs.Prelude.{◌≤◌};
 ghost use Rattle.sets.specs.Members.{state_width};
 ghost use Rattle.automaton.specs.Answers.{held_by};

@@ -20,7 +20,7 @@ mod start;
 mod state;
 mod step;
 
-// The places of the row list: one for each row that a file may have, and one for each state.
+// The places of the row list: one for each row that a file may have, and one for each state; by `as`, since no function of a trait is called in a constant.
 pub const LIST_PLACES: usize = automaton::ROW_PLACES + automaton::MOST_STATES as usize;
 
 // A row of a partial conversion's list: its node, its target, and how many different states it still waits for.
@@ -32,7 +32,8 @@ pub struct ListRow {
     pub waits: u8,
 }
 
-// A conversion stopped after some states: the number of nodes, the number of rows, and the list; places past the rows are 0.
+// A conversion stopped after some states: the number of nodes, the number of rows, and the list; places past the rows are 0. The array is the one of 80
+// places that C gets (8.22), and no heap is used.
 #[derive(Clone, Copy, PartialEq, Eq, Debug)]
 pub struct Stopped {
     pub nodes: usize,

@@ -38,7 +38,7 @@ pub fn list_rows(words: &[u32], rows: &[NodeRow]) -> [ListRow; LIST_PLACES]
     requires { length rows.now ≤ list_places }
     ensures { result ≡ reported_rows words.now rows.now }
 {
-    // By an index: a proof of `iter_mut().zip(rows)` would rest on names that Rattle may change.
+    // By an index, which is also the place: the goals of `iter_mut().zip(rows)` are reached by names of Rattle's own alone, which may change.
     let mut out = NOTHING.list;
     for (i, &row) in rows.iter().enumerate() {
         out[i] = list_row(words, row);

@@ -1,3 +1,4 @@
+// (Words and what else go side by side, as in `maker`.)
 // The start of a conversion: the empty node, the holes, the nodes of the file's rows, and the list.
 ghost use Rattle.std.specs.Prelude.{◌≡◌, ℕ, ◌++◌, map, suc, ◌+◌, ◌<◌, ◌≤◌, length, get_or};
 ghost use Rattle.sets.specs.Members.{has, state_width};

@@ -1,4 +1,5 @@
-// One state taken out of the row list. It may be any state.
+// One state taken out of the row list. It may be any state. Words, count, rows and state go side by side, as in `maker`: the rows are lent for reading while
+// the words grow, and a struct of both would be made anew at each step.
 ghost use Rattle.std.specs.Prelude.{◌≡◌, ◌<◌, ◌≤◌, length};
 ghost use Rattle.expressions.specs.Words.{node_in};
 ghost use Rattle.ground.specs.Lists.{those};

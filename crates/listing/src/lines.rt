@@ -75,7 +75,7 @@ fn line_length(number: usize, shape: Shape) -> usize
 
 // ---- bytes
 
-// The bytes of a listing, and the place as far as which they are written. The page lends no bytes but those that it was given: each method promises it, as `same_bytes`, since an invariant sees only one value of a page.
+// The bytes of a listing, and the place as far as which they are written. `put` and `number` are the two functions of `buffers` that C calls, on a page. The page lends no bytes but those that it was given: each method promises it, as `same_bytes`, since an invariant sees only one value of a page.
 #[derive(Drop)]
 struct Page<'a> {
     out: &'a mut [u8],
@@ -170,7 +170,7 @@ impl Page<'_> {
 
 // ---- the listing
 
-// A sound table: its words, how many nodes it has, and its answer.
+// A sound table: its words, how many nodes it has, and its answer. Words and count stand apart, as `Sound` and the public `node_at` take them.
 #[derive(Clone, Copy)]
 pub struct Table<'a> {
     pub words: &'a [u32],

@@ -35,7 +35,7 @@ fn put<const PLACES: usize>(runner: &Runner, word: u16, pile: &mut Stack<PLACES>
     Some(())
 }
 
-// The set that the tree reaches; none where the words are no tree.
+// The set that the tree reaches; none where the words are no tree. (The bound on the places is a clause, as in `stack`.)
 fn climb<const PLACES: usize>(runner: &Runner, words: &[u16]) -> Option<u16>
     requires words_fit { length words.now ≤ PLACES }
     requires places_fit { PLACES ≤ most_words }

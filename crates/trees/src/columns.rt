@@ -24,7 +24,8 @@ pub struct Columns {
     leaves: [u16; SYMBOL_PLACES],
 }
 
-// That its sources are states is a clause of these two and of `enter`: a type for it would be made of each row and taken apart at once.
+// That its sources are states is a clause of these two and of `enter`: a type for it would be made of each row and taken apart at once. The
+// other clauses here have each an index of another kind below its bound.
 // The set that a row with these sources, of which so many count, needs at a child place: of its source there; empty where the place is absent.
 fn needed(sources: [u8; SOURCE_PLACES], arity: u8, place: usize) -> u16
     requires place_lt_most_arity { place < most_arity }

@@ -14,7 +14,7 @@ mod rounds;
 mod runner;
 mod stack;
 
-// What a run reaches: the states, and whether a final one is among them.
+// What a run reaches: the states, and whether a final one is among them. The yes is half of the answer and flags nothing.
 #[derive(Clone, Copy)]
 pub struct Reached {
     pub states: StateSet,

@@ -1,4 +1,4 @@
-// Trees run, and the productive states.
+// Trees run, and the productive states. A draft and its symbols go side by side, as `trees::run` takes them.
 use crate::drafts::Draft;
 use crate::say::{Spaced, say};
 use trees::{ProductiveStates, ReachedStates};

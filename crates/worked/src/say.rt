@@ -1,4 +1,4 @@
-// Standard output, and the pieces that a line is put together from.
+// Standard output, and the pieces that a line is put together from. Each result is said as C has it: the lines have the zeros of a refusal too.
 // This is no `fmt::Write` for `write!`: that could not tell a text, whose bytes are written one by one, from a number, whose digits are written together, and what is missing where a write fails may not change (docs/DECISIONS.md, "Today's kit").
 use automaton::Refusal;
 use sets::StateSet;

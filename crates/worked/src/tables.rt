@@ -1,4 +1,5 @@
-// Node tables made, checked, measured and listed.
+// Node tables made, checked, measured and listed. Words, count and answer go side by side, as the public functions take them; a kind is said by the
+// name of its function, which is plainer than one function of kinds.
 ghost use Rattle.std.specs.Prelude.{◌<◌};
 
 use crate::conversions;
