@@ -1,11 +1,12 @@
 -- Bytes written one after the other, and bytes put where they fit.
-use Prim.Native.Nat.{ℕ, suc, ◌+◌, ◌-◌, ◌≤◌}
+use Prim.Native.Nat.{ℕ, suc, ◌+◌, ◌-◌, ◌<◌, ◌≤◌}
 use native.Mathlib.Omega.{arith}
 use native.Mathlib.Nat.{add-zero, add-suc, suc-add}
+use native.Mathlib.Numerals.{add-one}
 use mathlib.Core.Path.{◌≡◌, refl, ap, ◌∙◌}
 use mathlib.Core.List.{List, [], ◌∷◌, ◌++◌}
-use lib.ListN.{length, set, length-append}
-use lib.Seq.{sets, sets-eq, length-sets, take-length}
+use lib.ListN.{length, get_or, set, take, length-append}
+use lib.Seq.{sets, sets-eq, length-sets, take-suc, take-length}
 use borrow.Rule.Slice.PartMut.{put_mid}
 use Rattle.std.proofs.lemmas.Slice.{put_mid-paste}
 use Rattle.buffers.specs.Writing.{Wrote, Puts}
@@ -30,6 +31,16 @@ wrote_then {before = before} {at = at} {xs = xs} {ys = ys} f s =
 
 pub wrote_none : (out : List ℕ) (at : ℕ) → Wrote out at [] out at
 wrote_none out at = record { bytes_there = refl; next_place = omega arith }
+
+pub wrote-byte : (out : List ℕ) (at b : ℕ) → Wrote out at (b ∷ []) (set out at b) (at + 1)
+wrote-byte out at b = record { bytes_there = refl; next_place = refl }
+
+-- one byte more of some
+pub wrote-more : (before bytes : List ℕ) (at i : ℕ) (out : List ℕ) → i < length bytes → Wrote before at (take i bytes) out (at + i)
+    → Wrote before at (take (i + 1) bytes) (set out (at + i) (get_or bytes i 0)) (at + (i + 1))
+wrote-more before bytes at i out h w =
+    let e : (at + i) + 1 ≡ at + (i + 1) = omega arith in
+    rw (← e, add-one i, take-suc bytes i 0 h) (wrote_then w (wrote-byte out (at + i) (get_or bytes i 0)))
 
 -- ---- bytes put
 

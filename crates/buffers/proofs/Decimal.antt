@@ -1,4 +1,4 @@
--- Numbers in decimal: one digit more for each division by ten, and how many digits there are.
+-- Numbers in decimal: one digit more for each division by ten, the digits of a number below 10,000, and how many digits there are.
 use Prim.Native.Nat.{ℕ, zero, suc, ◌+◌, ◌*◌, ◌/◌, ◌^◌, ◌<◌, ◌≤◌}
 use native.Mathlib.Nat.{pow-suc, one-le-pow}
 use native.Mathlib.Decide.{dec_lt}
@@ -33,6 +33,20 @@ decimal-one n h = rw (lt-ltb n 10 h)
 pub decimal-more : (n : ℕ) → 10 ≤ n → decimal n ≡ decimal (n / 10) ++ (last_digit n ∷ [])
 unfolding decimal decimal_in
 decimal-more n h = rw (le-ltb n 10 h) (ap (λ (x : List ℕ). x ++ (last_digit n ∷ [])) (turns_same n (suc (n / 10)) (n / 10) (omega arith) (omega arith)))
+
+pub decimal-two : (n : ℕ) → 10 ≤ n → n < 100 → decimal n ≡ last_digit (n / 10) ∷ last_digit n ∷ []
+decimal-two n l h = decimal-more n l ∙ ap (λ (x : List ℕ). x ++ (last_digit n ∷ [])) (decimal-one (n / 10) (omega arith))
+
+pub decimal-three : (n : ℕ) → 100 ≤ n → n < 1000 → decimal n ≡ last_digit (n / 100) ∷ last_digit (n / 10) ∷ last_digit n ∷ []
+decimal-three n l h =
+    let e : n / 10 / 10 ≡ n / 100 = omega arith in
+    decimal-more n (omega arith) ∙ ap (λ (x : List ℕ). x ++ (last_digit n ∷ [])) (decimal-two (n / 10) (omega arith) (omega arith)) ∙ rw e
+
+pub decimal-four : (n : ℕ) → 1000 ≤ n → n < 10000 → decimal n ≡ last_digit (n / 1000) ∷ last_digit (n / 100) ∷ last_digit (n / 10) ∷ last_digit n ∷ []
+decimal-four n l h =
+    let e : n / 10 / 10 ≡ n / 100 = omega arith in
+    let f : n / 10 / 100 ≡ n / 1000 = omega arith in
+    decimal-more n (omega arith) ∙ ap (λ (x : List ℕ). x ++ (last_digit n ∷ [])) (decimal-three (n / 10) (omega arith) (omega arith)) ∙ rw (e, f)
 
 -- ---- how many digits
 
