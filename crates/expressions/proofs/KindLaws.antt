@@ -5,11 +5,15 @@ use mathlib.Core.Path.{◌≡◌, refl, ap}
 use mathlib.Core.List.{List}
 use Rattle.sets.specs.Members.{empty_set, state_width}
 use Rattle.expressions.specs.Nodes.{otherᴷ, kind_of, child_count}
-use Rattle.expressions.specs.Soundness.{union_all, opens_of}
+use Rattle.expressions.specs.Soundness.{Labelled, union_all, opens_of}
 
 -- a number over 5 stands for no kind
 pub other-kind : (kind : ℕ) → 5 < kind → kind_of kind ≡ otherᴷ
 other-kind kind h = let e : kind ≡ suc (suc (suc (suc (suc (suc (kind - 6)))))) = omega arith in ap kind_of e
+
+-- such a number is that of no label
+pub no_kind : (kind label : ℕ) → 5 < kind → Labelled kind label → ⊥
+no_kind kind label h l = rw (other-kind kind h) at l
 
 -- a node of it has no children
 pub other-count : (kind label : ℕ) → 5 < kind → child_count kind label ≡ 0
@@ -36,15 +40,15 @@ two-count (suc (suc (suc (suc (suc kind))))) label l h = absurd (omega arith)
 -- what the code needs of these where one arm stands for several kinds
 pub ruleset counts = (none-count, two-count, other-count)
 
--- the open set of the kinds that have none of their own
-pub none-opens : (kind label : ℕ) (sets : List ℕ) → kind < 1 → opens_of kind label sets ≡ empty_set state_width
+-- the open set of what has none of its own: the empty kind, and a number over 5
+pub none-opens : (kind label : ℕ) (sets : List ℕ) → (0 < kind → 5 < kind) → opens_of kind label sets ≡ empty_set state_width
 unfolding opens_of
 none-opens zero label sets h = refl
-none-opens (suc kind) label sets h = absurd (omega arith)
+none-opens (suc kind) label sets h = rw (other-kind (suc kind) (h (omega arith)))
 
+-- of the latter alone
 pub other-opens : (kind label : ℕ) (sets : List ℕ) → 5 < kind → opens_of kind label sets ≡ empty_set state_width
-unfolding opens_of
-other-opens kind label sets h = rw (other-kind kind h)
+other-opens kind label sets h = none-opens kind label sets (λ _. h)
 
 -- and of a symbol and an alternation
 pub joined-opens : (kind label : ℕ) (sets : List ℕ) → 1 < kind → kind < 4 → opens_of kind label sets ≡ union_all sets

@@ -13,14 +13,13 @@ use Rattle.expressions.specs.declared.Node.{Node}
 use Rattle.expressions.specs.Nodes.{Kind, emptyᴷ, holeᴷ, symbolᴷ, altᴷ, catᴷ, iterᴷ, otherᴷ, kind_of, Table, no_node, node_at, arity_of, children_of, child_count, children}
 use Rattle.expressions.specs.Words.{table_of}
 use Rattle.expressions.specs.Unfolding.{exprs_of, built_by, built_of, built, unfolded, expr_at}
-use Rattle.expressions.specs.Soundness.{SoundNodes, Sound}
+use Rattle.expressions.specs.Soundness.{Fits, Sound}
 use Rattle.expressions.specs.Sizes.{written_size, written_sizes, held, held_size, sizes_of}
 use Rattle.expressions.specs.Inside.{sum_all, size_over}
 use Rattle.expressions.specs.Answers.{Measures, measured}
 use Rattle.ground.proofs.Lists.{all_map, map_same}
 use Rattle.expressions.proofs.KindLaws.{none-count, other-count}
 use Rattle.expressions.proofs.Words.{length-table}
-use Rattle.expressions.proofs.Soundness.{fits-at}
 use Rattle.expressions.proofs.Unfolding.{length-unfolded, unfolded-snoc}
 
 -- ---- one node
@@ -106,7 +105,7 @@ pub so-far-all : (table : Table) (before : List ℕ) → length before ≡ lengt
 so-far-all table before e =
     rw (take_all (length before) table (omega arith), drop_of_length-le before {i = length before} (omega arith)) (append-nil (sizes_of table))
 
-module _ (table : Table) (sound : SoundNodes table) (before : List ℕ) (i : ℕ) (h : i < length table) where
+module _ (table : Table) (before : List ℕ) (i : ℕ) (h : i < length table) (fits : Fits i (node_at table i).shape) where
   many : length (sizes_of (take i table)) ≡ i
   many = length-sizes (take i table) ∙ length-take-le i table (omega arith)
 
@@ -119,7 +118,7 @@ module _ (table : Table) (sound : SoundNodes table) (before : List ℕ) (i : ℕ
       (size_same (λ c. get_or (so_far table before i) c 0) (λ c. held_size (expr_at (take i table) c)) (node_at table i).shape
       (all_map (children (node_at table i).shape)
       (λ c l. get_or-append (sizes_of (take i table)) (drop i before) 0 c (omega (arith, many)) ∙ sizes-at (take i table) c (omega (arith, length-take-le i table (omega arith))))
-      (fits-at table sound i h).earlier))
+      fits.earlier))
       ∙ sym (held-built (expr_at (take i table)) (node_at table i).shape)
 
   pub so_far_more : i < length before

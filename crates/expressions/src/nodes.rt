@@ -3,7 +3,7 @@ ghost use Rattle.std.specs.Prelude.{◌≡◌, ◌<◌, map, length, take};
 ghost use Rattle.sets.specs.Members.{one_set, union, state_width};
 ghost use Rattle.ground.specs.Decides.{Decides};
 ghost use Rattle.ground.specs.Lists.{All};
-ghost use Rattle.expressions.specs.Nodes.{node_at, children, unused};
+ghost use Rattle.expressions.specs.Nodes.{node_at, child_count, children, unused};
 ghost use Rattle.expressions.specs.Soundness.{Labelled, Fits, union_all, cat_opens, opens_in, SoundNode, SoundNodes};
 ghost use Rattle.expressions.specs.Inside.{nodes_of};
 
@@ -28,25 +28,28 @@ fn symbol_fits(label: u32) -> bool
     label / ARITY_STEP <= MOST_ARITY && label % ARITY_STEP < MOST_SYMBOLS
 }
 
-// Does the label suit the kind? A `match` on its number, as the requirements ask of the soundness check (12.12).
+// Does the label suit the kind? A `match` on its number, as the requirements ask of the soundness check (12.12). Each kind has an arm of its own here, and hands on its own number of children below, so that the compiler makes code for each: where kinds share an arm, the check is up to half slower.
 fn label_fits(kind: u32, label: u32) -> bool
     ensures { Decides (Labelled kind label) result }
 {
     match kind {
-        EMPTY | ALTERNATION => label == 0,
-        HOLE | CONCATENATION | ITERATION => label < MOST_STATES,
+        EMPTY => label == 0,
+        HOLE => label < MOST_STATES,
         SYMBOL => symbol_fits(label),
+        ALTERNATION => label == 0,
+        CONCATENATION => label < MOST_STATES,
+        ITERATION => label < MOST_STATES,
         _ => false,
     }
 }
 
-// Are the children earlier nodes than this, and the other places 0? In one pass: by `take` and `skip` the check is a fifth slower.
-fn places_fit(number: usize, shape: Shape) -> bool
+// Are the children, which are so many, earlier nodes than this, and the other places 0? In one pass: by `take` and `skip` the check is a fifth slower.
+fn places_fit(number: usize, shape: Shape, used: u32) -> bool
+    requires { used ≡ child_count shape.kind shape.label }
     ensures { Decides (All (λ c. c < number) (children shape) × All (λ c. c ≡ 0) (unused shape)) result }
 {
-    let used = shape.child_count() as usize;
     shape.places().iter().enumerate().all(|(place, child)| {
-        if place < used {
+        if place < used as usize {
             (*child as usize) < number
         } else {
             *child == 0
@@ -56,10 +59,17 @@ fn places_fit(number: usize, shape: Shape) -> bool
 
 // May the node of this number have this shape? Inline, since the check and `make` are a third slower where it is called.
 #[inline]
+#[tactic(auto, using(crate::proofs::KindLaws::counts), unfolding(crate::specs::Nodes::child_count))]
 pub fn shape_fits(number: usize, shape: Shape) -> bool
     ensures { Decides (Fits number shape) result }
 {
-    label_fits(shape.kind, shape.label) && places_fit(number, shape)
+    label_fits(shape.kind, shape.label)
+        && match shape.kind {
+            SYMBOL => places_fit(number, shape, shape.label / ARITY_STEP),
+            ALTERNATION | CONCATENATION => places_fit(number, shape, 2),
+            ITERATION => places_fit(number, shape, 1),
+            _ => places_fit(number, shape, 0),
+        }
 }
 
 // The open word of a child.
@@ -69,12 +79,13 @@ fn opens_of(nodes: &[[u32; NODE_WIDTH]], child: u32) -> u32
     nth(nodes, child as usize).opens
 }
 
-// The union of the children's open sets.
-fn union_opens(nodes: &[[u32; NODE_WIDTH]], shape: Shape) -> u32
+// The union of the open sets of the children, which are so many.
+fn union_opens(nodes: &[[u32; NODE_WIDTH]], shape: Shape, used: u32) -> u32
+    requires { used ≡ child_count shape.kind shape.label }
     ensures { result ≡ union_all (map (λ c. (node_at (nodes_of nodes.now) c).opens) (children shape)) }
 {
     let places = shape.places();
-    let children = places.iter().take(shape.child_count() as usize);
+    let children = places.iter().take(used as usize);
     children
         .fold(
             StateSet::EMPTY,
@@ -112,7 +123,8 @@ pub fn open_of(nodes: &[[u32; NODE_WIDTH]], shape: Shape) -> u32
 {
     match shape.kind {
         HOLE => StateSet::one(shape.label).0.wide(),
-        SYMBOL | ALTERNATION => union_opens(nodes, shape),
+        SYMBOL => union_opens(nodes, shape, shape.label / ARITY_STEP),
+        ALTERNATION => union_opens(nodes, shape, 2),
         CONCATENATION => cat_opens(
             shape.label,
             opens_of(nodes, shape.first),

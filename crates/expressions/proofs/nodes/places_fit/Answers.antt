@@ -9,5 +9,5 @@ use Rattle.expressions.proofs.nodes.places_fit.Goals as goal
 
 pub returns : goal.returns
 returns c =
-    fits-decided c.args.number c.args.shape c.child_count.ensures
-    (all_from_yields_List (place_test c.args.number c.child_count.result) _ _ _ c.all.ensures.ran (YieldsList-from_enumerate (YieldsList-from_slice (places c.args.shape) cc) cc) (λ x b q k. search (rules, tests)))
+    fits-decided c.args.number c.args.shape c.requires
+    (all_from_yields_List (place_test c.args.number c.args.used) _ _ _ c.all.ensures.ran (YieldsList-from_enumerate (YieldsList-from_slice (places c.args.shape) cc) cc) (λ x b q k. search (rules, tests)))

@@ -28,5 +28,5 @@ returns c =
     let f : ℕ → ℕ = λ i. (node_at (nodes_of c.args.nodes.now) i).opens in
     let e = kept (λ cs set. set.0 ≡ union_all (map f cs))
     (λ cs set x next k j called. let d : next.0 ≡ union state_width set.0 (f x.now % 2 ^ state_width) = search rules in (union-more f cs x.now j d, search rules))
-    (YieldsList-from_take {s = c.take-children.result} c.child_count.result (YieldsList-from_slice (places c.args.shape) cc) cc) (empty-zero state_width) c.fold.ensures.ran in
-    c.wide.ensures ∙ e ∙ rw c.child_count.ensures
+    (YieldsList-from_take {s = c.take-children.result} c.args.used (YieldsList-from_slice (places c.args.shape) cc) cc) (empty-zero state_width) c.fold.ensures.ran in
+    c.wide.ensures ∙ e ∙ rw c.requires

@@ -1,7 +1,10 @@
-use Rattle.std.proofs.Common.{arith, ◌≡◌, ◌<◌, ◌∙◌, ap, ℕ, length}
+use Rattle.std.proofs.Common.{arith, ◌≡◌, ◌<◌, ◌∙◌, sym, ap, ℕ, [], length}
 use lib.ListN.{set, length-map}
+use Rattle.std.proofs.lemmas.List.{get_or-map}
+use Rattle.expressions.specs.Nodes.{no_node}
 use Rattle.expressions.specs.Words.{decode}
 use Rattle.expressions.specs.Inside.{nodes_of}
+use Rattle.expressions.proofs.Soundness.{fits-at}
 use Rattle.expressions.proofs.Written.{so-far-none, so-far-all, so_far_more}
 use Rattle.expressions.proofs.sizes.fill.Goals as goal
 
@@ -13,8 +16,9 @@ loop-i-preserved c =
     let i = c.loop-i.i in
     let table = nodes_of c.args.nodes.now in
     let h : i < length table = omega (arith, length-map c.args.nodes.now decode) in
-    ap (λ (x : ℕ). set c.loop-i.sizes i x) (rw c.nth.ensures at c.size_at.ensures)
-    ∙ rw c.loop-i.invariant (so_far_more table c.requires.sound c.args.sizes.now i h c.loop-i-test.true)
+    let e = c.of_words.ensures ∙ sym (get_or-map decode c.args.nodes.now i [] no_node (omega arith)) in
+    ap (λ (x : ℕ). set c.loop-i.sizes i x) (rw e at c.size_at.ensures)
+    ∙ rw c.loop-i.invariant (so_far_more table c.args.sizes.now i h (fits-at table c.requires.sound i h) c.loop-i-test.true)
 
 pub returns : goal.returns
 returns c =

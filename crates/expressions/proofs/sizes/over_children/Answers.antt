@@ -13,5 +13,5 @@ unfolding size_over children
 returns c =
     let size : ℕ → ℕ = λ i. get_or c.args.sizes.now i 0 in
     let e = fold_from_yields_List _ (λ total i. min (total + size i) most_size) _ c.fold.result c.fold.ensures.ran
-    (YieldsList-from_take c.child_count.result (YieldsList-from_slice (places c.args.shape) cc) cc) (λ a x b q k. search rules) in
-    e ∙ rw c.child_count.ensures (held-fold size (children c.args.shape) 1)
+    (YieldsList-from_take c.args.used (YieldsList-from_slice (places c.args.shape) cc) cc) (λ a x b q k. search rules) in
+    e ∙ rw c.requires (held-fold size (children c.args.shape) 1)
