@@ -2,7 +2,7 @@
 use Rattle.std.specs.Prelude.{ℕ, suc, ◌+◌, ◌≤◌, true, ◌≡◌, List, [], length, drop, Result, MatchResult}
 use Rattle.sets.specs.declared.StateSet.{StateSet}
 use Rattle.automaton.specs.Held.{Held, most_symbols, most_rows}
-use Rattle.automaton.specs.Checks.{SoFar, nothing, Found, wrong, more, number_at, kind_allowed, length_allowed, values, record_found, verdict_from}
+use Rattle.automaton.specs.Checks.{Verdict, SoFar, nothing, Found, wrong, more, number_at, kind_allowed, length_allowed, values, record_found, verdict_from}
 use Rattle.automaton.specs.Refusals.{number_of}
 use Rattle.automaton.specs.Answers.{placed, reading_of}
 use Rattle.automaton.specs.declared.Refused.{Refused}
@@ -10,6 +10,10 @@ use Rattle.automaton.specs.declared.Automaton.{Automaton}
 use Rattle.automaton.specs.declared.Reading.{Reading}
 use Rattle.automaton.specs.declared.reader.Kind.{Kind}
 use Rattle.automaton.specs.declared.reader.Kind.TheVariants.{Head, Symbol, Row, End}
+
+-- what the file is found to be from an offset on
+unfoldable pub verdict_at : List ℕ → ℕ → SoFar → Verdict
+verdict_at file offset so_far = verdict_from (suc (length (drop offset file))) offset so_far (drop offset file)
 
 -- what `read` returns of a file whose records so far gave this, and whose bytes from there on are these
 unfoldable pub rest_answer : SoFar → List ℕ → Reading

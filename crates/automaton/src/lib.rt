@@ -3,9 +3,10 @@
 
 mod reader;
 
-ghost use Rattle.std.specs.Prelude.{◌≡◌};
+ghost use Rattle.std.specs.Prelude.{◌≡◌, replicate};
 ghost use Rattle.automaton.specs.Refusals.{refusal_of, extent_of};
-ghost use Rattle.automaton.specs.Answers.{read_answer, read_of};
+ghost use Rattle.automaton.specs.Held.{most_rows};
+ghost use Rattle.automaton.specs.Answers.{read_answer, read_of, unused_row};
 
 use reader::{Kind, Record};
 use sets::StateSet;
@@ -144,6 +145,14 @@ const NOTHING: Automaton = Automaton {
     rows: [UNUSED; ROW_PLACES],
 };
 
+// A row in no place. A function of its own, since the places are cleared at once so: in an array that is written inside of another value, each row
+// is stored by itself, which made the reading of a small file take 1.6 times as long.
+fn no_rows() -> [Row; ROW_PLACES]
+    ensures { result ≡ replicate most_rows unused_row }
+{
+    [UNUSED; ROW_PLACES]
+}
+
 // The automaton that a file holds, or the reason for which its checks refuse it: one pass over the bytes, in which the value grows record by record.
 pub fn read(file: &[u8]) -> Result<Automaton, Refused>
     ensures { read_of result ≡ read_answer file.now }
@@ -152,7 +161,10 @@ pub fn read(file: &[u8]) -> Result<Automaton, Refused>
     let mut found = Automaton {
         states,
         finals,
-        ..NOTHING
+        symbols: 0,
+        arities: [0; SYMBOL_PLACES],
+        count: 0,
+        rows: no_rows(),
     };
     loop {
         let record = reader::first_record(rest, |kind| found.may_have(kind))?;

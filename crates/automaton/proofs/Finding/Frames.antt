@@ -66,6 +66,12 @@ none-length (x ∷ xs) = sym (ne_eqb (length (x ∷ xs)) 0 (λ e. omega arith))
 
 -- ---- which lengths
 
+-- a number that no kind has goes with no length
+pub length_none : (kind size : ℕ) → NoKind kind → false ≡ length_allowed kind size
+unfolding length_allowed
+length_none kind size u =
+    rw (ne_eqb kind 1 u.no_head, ne_eqb kind 2 u.no_symbol, ne_eqb kind 3 u.no_row, ne_eqb kind 9 u.no_end)
+
 pub length-head : (size : ℕ) → eqb size 3 ≡ length_allowed 1 size
 unfolding length_allowed
 length-head size = sym (or-false _) ∙ sym (or-false _) ∙ sym (or-false _)

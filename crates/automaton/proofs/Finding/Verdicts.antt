@@ -6,12 +6,13 @@ use mathlib.Core.List.{List}
 use native.Mathlib.Omega.{arith}
 use lib.Dec.{ltb}
 use lib.ListN.{length, take, drop, length-drop}
+use lib.Seq.{drop-drop}
 use borrow.Author.Tests.{le-ltb, ltb-false, not-false}
 use Rattle.automaton.specs.Held.{Held}
-use Rattle.automaton.specs.Checks.{Verdict, SoFar, nothing, given, Found, wrong, more, end, wrong_if, number_at, is_none, kind_allowed, length_allowed, values, record_found, follow, verdict_from, verdict}
+use Rattle.automaton.specs.Checks.{Verdict, holds, fault, SoFar, nothing, given, Found, wrong, more, end, wrong_if, number_at, is_none, kind_allowed, length_allowed, values, record_found, follow, verdict_from, verdict}
 use Rattle.automaton.specs.Refusals.{refusal, no_refusal}
 use Rattle.automaton.specs.Answers.{placed, no_automaton, reading_of, read_answer}
-use Rattle.automaton.specs.Inside.{rest_answer}
+use Rattle.automaton.specs.Inside.{verdict_at, rest_answer}
 
 -- the checks before a record's values have passed
 pub record Passed (allowed : ℕ → Bool) (bytes : List ℕ) : Type 0 where
@@ -75,6 +76,39 @@ enough (suc t) (suc u) offset so_far bytes h k =
         last : (b : Bool) → follow (end held) offset (rest t) b ≡ follow (end held) offset (rest u) b
         last true = refl
         last false = refl
+
+-- ---- one record of a file, and where a fault of it lies
+
+module _ (file : List ℕ) (offset : ℕ) (so_far : SoFar) where
+  pub at-wrong : (n : ℕ) → record_found so_far (drop offset file) ≡ wrong n → verdict_at file offset so_far ≡ fault n offset
+  unfolding verdict_at verdict_from
+  at-wrong n e = rw e
+
+  one-turn : (held : Held) → record_found so_far (drop offset file) ≡ more held
+      → verdict_at file offset so_far
+      ≡ verdict_from (length (drop offset file)) (offset + (4 + number_at (drop offset file) 0)) (given held) (drop (4 + number_at (drop offset file) 0) (drop offset file))
+  unfolding verdict_at verdict_from
+  one-turn held e = ap (λ (found : Found). follow found offset (λ held'. verdict_from (length (drop offset file)) (offset + (4 + number_at (drop offset file) 0)) (given held') (drop (4 + number_at (drop offset file) 0) (drop offset file))) (is_none (drop 4 (drop offset file)))) e
+
+  pub at_more : (held : Held) → record_found so_far (drop offset file) ≡ more held
+      → verdict_at file offset so_far ≡ verdict_at file (offset + (4 + number_at (drop offset file) 0)) (given held)
+  unfolding verdict_at
+  at_more held e =
+      let bytes = drop offset file in
+      let taken = 4 + number_at bytes 0 in
+      let p = more-passed so_far bytes held e in
+      one-turn held e
+      ∙ enough (length bytes) (suc (length (drop taken bytes))) (offset + taken) (given held) (drop taken bytes) (taken-less (length bytes) bytes p.four (omega arith)) (omega arith)
+      ∙ ap (λ (rest : List ℕ). verdict_from (suc (length rest)) (offset + taken) (given held) rest) (drop-drop taken offset file)
+
+  pub at-end : (held : Held) → record_found so_far (drop offset file) ≡ end held
+      → verdict_at file offset so_far ≡ follow (end held) offset (λ h. holds h) (is_none (drop 4 (drop offset file)))
+  unfolding verdict_at verdict_from
+  at-end held e = ap (λ (found : Found). follow found offset (λ held'. verdict_from (length (drop offset file)) (offset + (4 + number_at (drop offset file) 0)) (given held') (drop (4 + number_at (drop offset file) 0) (drop offset file))) (is_none (drop 4 (drop offset file)))) e ∙ last (is_none (drop 4 (drop offset file)))
+    where
+      last : (b : Bool) → follow (end held) offset (λ held'. verdict_from (length (drop offset file)) (offset + (4 + number_at (drop offset file) 0)) (given held') (drop (4 + number_at (drop offset file) 0) (drop offset file))) b ≡ follow (end held) offset (λ h. holds h) b
+      last true = refl
+      last false = refl
 
 -- ---- what `read` returns, one record at a time: where a fault lies does not matter
 

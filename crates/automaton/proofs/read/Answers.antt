@@ -1,7 +1,6 @@
 use Rattle.std.proofs.Common.{rules, arith}
 use Rattle.std.proofs.lemmas.Result.{err_from_is_err_and}
 use Rattle.automaton.specs.Checks.{given}
-use Rattle.automaton.specs.Answers.{unused_row}
 use Rattle.automaton.proofs.Finding.Whole.{read-start, first-refused, few-symbols, next-refused, no-head, symbol-long, symbol-refused, symbol-next, row-two, row-five, row-refused, row-next, read-done, read-past}
 use Rattle.automaton.proofs.read.Goals as goal
 use Rattle.automaton.proofs.read.Goals.{in-Symbol+in_ok-add_symbol-in-Symbol, in-Row+in_ok-add_row-in-Row}
@@ -12,8 +11,7 @@ returns-in_err-states c =
     rw (p.1, p.2) (first-refused c.args.file.now _ c.in_err-states.ensures)
 
 pub loop-record-init : goal.loop-record-init
-unfolding unused_row
-loop-record-init c = read-start c.args.file.now c.in_ok-states.states c.in_ok-states.finals c.in_ok-states.rest.now c.in_ok-states.ensures
+loop-record-init c = rw c.no_rows.ensures (read-start c.args.file.now c.in_ok-states.states c.in_ok-states.finals c.in_ok-states.rest.now c.in_ok-states.ensures)
 
 pub returns-in_err-record : goal.returns-in_err-record
 returns-in_err-record c =
