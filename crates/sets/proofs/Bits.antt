@@ -7,14 +7,14 @@ use native.Mathlib.Numerals.{one-add}
 use native.Mathlib.Omega.{arith}
 use lib.Dec.{ltb, eqb}
 use lib.Pow.{pow_pos, pow-lt, pow_mono, mod-pow-add}
-use lib.Bits.{bit_and, bit_or, or_lt, and_le_l, or_shifted_r}
+use lib.Bits.{bit_and, bit_or, bit_xor, or_lt, and_le_l, or_shifted_r}
 use lib.Count.{ones, ones_cat}
 use borrow.Author.Tests.{ne_eqb, lt-ltb, le-ltb, eqb-true, eqb-false, ltb-true, ltb-false}
 use Rattle.sets.specs.Members.{has, set_of, how_many, empty_set, one_set, union, without, size}
 use Rattle.std.specs.Int.{bit_at}
 use Rattle.std.proofs.Math.Bool.{and-true, and-false}
 use Rattle.std.proofs.lemmas.Nat.{and-not, one_shl}
-use Rattle.std.proofs.lemmas.Nat.Bits.{and_pow, bit_at_and, bit_at_or, bit_at_above, bit_at-lt, bit_at-zero, bit_at-pow_same, bit_at-pow_other}
+use Rattle.std.proofs.lemmas.Nat.Bits.{and_pow, bit_at_and, bit_at_or, bit_at_xor, bit_at_above, bit_at-lt, bit_at-zero, bit_at-pow_same, bit_at-pow_other}
 
 -- ---- membership in what the machine makes
 
@@ -40,6 +40,12 @@ both off on = refl
 both on off = refl
 both on on = refl
 
+cleared : {m n : ℕ} → Digit m → Digit n → eqb ((m + min m n) % 2) 1 ≡ (eqb m 1 && not (eqb n 1))
+cleared off off = refl
+cleared off on = refl
+cleared on off = refl
+cleared on on = refl
+
 digit-of : (x i : ℕ) → Digit (bit_at x i)
 digit-of x i = digit-is (bit_at x i) (bit_at-lt x i)
 
@@ -50,6 +56,11 @@ has-or a b i = rw bit_at_or (either (digit-of a i) (digit-of b i))
 pub has-and : (a b i : ℕ) → has (bit_and a b) i ≡ (has a i && has b i)
 unfolding has
 has-and a b i = rw bit_at_and (both (digit-of a i) (digit-of b i))
+
+-- what a set shares with another taken out of it: its members that the other lacks
+pub has-cleared : (a b i : ℕ) → has (bit_xor a (bit_and a b)) i ≡ (has a i && not (has b i))
+unfolding has
+has-cleared a b i = rw (bit_at_xor, bit_at_and) (cleared (digit-of a i) (digit-of b i))
 
 -- the bits turned round, as the machine does it
 pub has-not : (width a i : ℕ) → a < 2 ^ width → i < width → has (2 ^ width - 1 - a) i ≡ not (has a i)
@@ -194,6 +205,13 @@ without-and width a q h =
     let one = set_of width (λ i. eqb i q) in
     made width (bit_and a (2 ^ width - 1 - one)) (λ i. has a i && not (eqb i q)) (omega (arith, and_le_l a (2 ^ width - 1 - one)))
     (λ i l. has-and a (2 ^ width - 1 - one) i ∙ rw (has-not width one i (set_of-lt width (λ i. eqb i q)) l, has-set_of width (λ i. eqb i q) i, lt-ltb i width l))
+
+-- a number at or past the width is in no set, so that to take it out changes nothing
+pub without-none : (width a q : ℕ) → a < 2 ^ width → width ≤ q → a ≡ without width a q
+unfolding without
+without-none width a q ha h =
+    made width a (λ i. has a i && not (eqb i q)) ha
+    (λ i l. sym (and-true (has a i)) ∙ ap (λ (b : Bool). has a i && not b) (sym (ne_eqb i q (λ e. lt_irrefl i (omega arith)))))
 
 ones-digit : (x w : ℕ) → ones (bit_at x w) ≡ cond (has x w) 1 0
 unfolding has ones

@@ -1,12 +1,12 @@
 -- Membership in the sets that are made, over the width: for sets that are within it, without a bound on the member.
-use Prim.Native.Nat.{ℕ, ◌^◌, ◌<◌, ◌/◌}
+use Prim.Native.Nat.{ℕ, ◌^◌, ◌<◌, ◌≤◌, ◌/◌}
 use mathlib.Core.Path.{◌≡◌, refl, sym, ◌∙◌, ap}
 use mathlib.Core.Bool.{Bool, true, false, not, ◌&&◌, ◌||◌}
 use lib.Dec.{eqb, ltb}
-use lib.Pow.{pow_pos}
+use lib.Pow.{pow_pos, pow_mono}
 use native.Mathlib.Nat.{div-eq_of_lt, div-lt_iff_lt-mul}
 use native.Mathlib.Omega.{arith}
-use borrow.Author.Tests.{lt-ltb, eq-eqb, ne_eqb, ltb-false, leb-true, leb-false}
+use borrow.Author.Tests.{lt-ltb, lt-leb, eq-eqb, ne_eqb, ltb-false, leb-true, leb-false}
 use Rattle.sets.specs.Members.{has, empty_set, one_set, union, without, has_past, of_word}
 use Rattle.sets.proofs.Bits.{has-or, has-zero, has-high, has-set_of, set_of-lt, set_of-same, set_of-has, empty-zero, union-or}
 
@@ -73,3 +73,7 @@ past-count count a = go (has_past a count) refl
     go : (b : Bool) → has_past a count ≡ b → not (eqb (a / 2 ^ count) 0) ≡ b
     go true e = rw (ne_eqb (a / 2 ^ count) 0 (λ z. omega (arith, leb-true (2 ^ count) a e, (div-lt_iff_lt-mul {x = a} {y = 1} (pow_pos count)).0 (omega arith))))
     go false e = rw (eq-eqb (a / 2 ^ count) 0 (div-eq_of_lt (leb-false _ _ e)))
+
+-- nothing stands past the width
+pub past-wide : (width count a : ℕ) → a < 2 ^ width → width ≤ count → has_past a count ≡ false
+past-wide width count a h l = lt-leb (2 ^ count) a (omega (arith, h, pow_mono l))
