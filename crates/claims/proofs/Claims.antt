@@ -8,6 +8,7 @@ use Rattle.claims.proofs.Meaning.Printings.{prints_faithfully}
 use Rattle.claims.proofs.Outcomes.Uniqueness.{each_once}
 use Rattle.claims.proofs.Outcomes.Told.{each_told}
 use Rattle.claims.proofs.Outcomes.Kept.{each_kept}
+use Rattle.claims.proofs.Outcomes.Returned.{each_returned}
 use Rattle.claims.proofs.Worked.Shams.{no_sham}
 use Rattle.claims.proofs.Worked.WorkedDrafts.{worked_drafts}
 use Rattle.claims.proofs.Computing.Computed.{computed}
@@ -23,6 +24,7 @@ claims =
       each_once = each_once;
       each_told = each_told;
       each_kept = each_kept;
+      each_returned = each_returned;
       no_sham = no_sham;
       worked_drafts = worked_drafts;
       computed = computed;

@@ -8,3 +8,4 @@ pub mod KeptTables
 pub mod KeptRuns
 pub mod KeptConversions
 pub mod Kept
+pub mod Returned

@@ -5,7 +5,7 @@ use Rattle.claims.specs.Slips.{NoSlip}
 use Rattle.claims.specs.Conversions.{ConvertsFaithfully}
 use Rattle.claims.specs.Printings.{PrintsFaithfully}
 use Rattle.claims.specs.Uniqueness.{EachOnce, EachTold}
-use Rattle.claims.specs.Kept.{EachKept}
+use Rattle.claims.specs.Kept.{EachKept, EachReturned}
 use Rattle.claims.specs.Shams.{NoSham}
 use Rattle.claims.specs.WorkedDrafts.{WorkedDrafts}
 use Rattle.claims.specs.Computed.{Computed}
@@ -27,6 +27,8 @@ pub record Claims : Type 0 where
   pub each_told : EachTold
   -- and has one, in numbers of the types that the code declares [12.15]
   pub each_kept : EachKept
+  -- and every outcome that it allows is what some result stands for [12.13, 12.15]
+  pub each_returned : EachReturned
   -- no sham keeps them [12.4 to 12.8]
   pub no_sham : NoSham
   -- the worked drafts [10.2 to 10.17]

@@ -1,5 +1,5 @@
 -- Each promise can be kept [12.15]: for every input there is an outcome that keeps it; where a place in a lent buffer is returned, the buffer is one that a machine has, shorter than 2 ^ 64. What is returned fits the types that the code declares; a lent buffer is as long as it was [0.16], and its words or bytes still fit their type where they did before. So no promise of a public function is empty, and none asks for what cannot be. (That the functions keep them is what the prover shows of the code.)
-use Rattle.std.specs.Prelude.{ℕ, ◌≡◌, Bool, List, length}
+use Rattle.std.specs.Prelude.{ℕ, ◌≡◌, Bool, List, length, Result}
 use Rattle.sets.specs.declared.StateSet.{StateSet}
 use Rattle.sets.specs.Promises.{IsEmpty, IsOne, IsOfWord, IsUnion, SaysMember, SaysPast, IsWithout, IsCount}
 use Rattle.buffers.specs.Decimal.{decimal}
@@ -7,16 +7,18 @@ use Rattle.buffers.specs.Writing.{Puts}
 use Rattle.ground.specs.Promises.{IsIndex, IsWidened}
 use Rattle.buffers.specs.Promises.{CountsDigits, Clears}
 use Rattle.automaton.specs.declared.Automaton.{Automaton}
-use Rattle.automaton.specs.Answers.{read_answer}
+use Rattle.automaton.specs.declared.Refused.{Refused}
+use Rattle.automaton.specs.Refusals.{refusal_of, extent_of}
+use Rattle.automaton.specs.Answers.{read_answer, read_of}
 use Rattle.writer.specs.Answers.{Written}
-use Rattle.trees.specs.Promises.{RunPromise, ProductivePromise}
+use Rattle.trees.specs.Promises.{RunPromise, ProductivePromise, run_of, states_of}
 use Rattle.expressions.specs.declared.Shape.{Shape}
 use Rattle.expressions.specs.Nodes.{child_count, places}
 use Rattle.expressions.specs.Words.{node_in}
 use Rattle.expressions.specs.Making.{Makes}
-use Rattle.expressions.specs.Answers.{SoundAnswer, Measures}
+use Rattle.expressions.specs.Answers.{SoundAnswer, Measures, measured_of}
 use Rattle.listing.specs.Answers.{Lists}
-use Rattle.elimination.specs.Answers.{PartlyAnswered, WhollyAnswered}
+use Rattle.elimination.specs.Answers.{PartlyAnswered, WhollyAnswered, partly_answer, wholly_answer}
 use Rattle.automaton.specs.declared.Extent.{Extent}
 use Rattle.front.specs.Answers.{Prints}
 use Rattle.claims.specs.Types.{Byte, Short, Word, Long, Bytes, Words, SetFits, RefusalFits, ReadingFits, WritingFits, ReachedFits, ProductiveFits, ShapeFits, NodeFits, MeasuredFits, ListedFits, PartlyFits, WhollyFits, PrintingFits}
@@ -75,3 +77,22 @@ pub record EachKept : Type 0 where
   -- what is printed [9.13]: two buffers
   pub printed : (file nodes out : List ℕ) → Long (length out)
       → (after bytes : List ℕ) × (r : Extent) × Prints file nodes after out bytes r × Stays Words nodes after × Stays Bytes out bytes × PrintingFits r
+
+-- ---- by a result
+
+-- every outcome that a promise allows is what some result stands for
+abbrev pub Returned : {A X : Type 0} → (X → A) → (A → Type 0) → Type 0
+Returned {A} {X} of Promise = (r : A) → Promise r → (x : X) × (r ≡ of x)
+
+-- A function that can refuse returns a result, and its promise is said of the numbers that the result stands for [12.13]. Whatever the promise allows, some result stands for, in the same numbers: so the outcome that keeps it above [12.15] is one that the function itself can return, and not its door alone.
+pub record EachReturned : Type 0 where
+  pub read : (file : List ℕ) → Returned read_of (λ r. r ≡ read_answer file)
+  pub write : (value : Automaton) (before after : List ℕ) → Returned extent_of (Written value before after)
+  pub run : (file words : List ℕ) → Returned run_of (RunPromise file words)
+  pub productive : (file : List ℕ) → Returned states_of (ProductivePromise file)
+  pub make : (before : List ℕ) (count : ℕ) (shape : Shape) (after : List ℕ) → Returned {X = Result (Unit {0}) Refused} refusal_of (Makes before count shape after)
+  pub measure : (words : List ℕ) (count answer : ℕ) (before after : List ℕ) → Returned measured_of (Measures words count answer before after)
+  pub list : (words : List ℕ) (count answer : ℕ) (before after : List ℕ) → Returned extent_of (Lists words count answer before after)
+  pub convert_partly : (file : List ℕ) (k : ℕ) (before after : List ℕ) → Returned partly_answer (PartlyAnswered file k before after)
+  pub convert : (file before after : List ℕ) → Returned wholly_answer (WhollyAnswered file before after)
+  pub printed : (file nodes after out bytes : List ℕ) → Returned extent_of (Prints file nodes after out bytes)

@@ -25,7 +25,7 @@ use Rattle.elimination.specs.Answers.{refused_partly, refused_whole, partly_answ
 use Rattle.claims.specs.Uniqueness.{EachTold}
 
 -- the reason of a number
-reason_at : ℕ → Refused
+unfoldable pub reason_at : ℕ → Refused
 reason_at n =
     cond (eqb n 1) BreaksOff
     (cond (eqb n 2) Kind
